@@ -1,0 +1,4 @@
+pub mod Xor
+pub mod Register
+pub mod CrcTable
+pub mod CrcVector

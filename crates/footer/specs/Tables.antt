@@ -1,0 +1,57 @@
+-- What a footer's reader answers, and what its lent tables then hold.
+use Prim.Native.Nat.{ℕ, _/_}
+use mathlib.Core.List.{List, [], _∷_}
+use mathlib.Core.Bool.{Bool}
+use mathlib.Core.Path.{_≡_}
+use lib.ListN.{length}
+use lib.Dec.{leb}
+use Rattle.numbers.specs.Choice.{pick, both}
+use Rattle.wire.specs.Envelope.{checksumOf}
+use Rattle.numbers.specs.Rows.{flat, over}
+use Rattle.header.specs.Tables.{headerOf}
+use Rattle.header.specs.Beside.{Beside, read, refusal, beside}
+use Rattle.footer.specs.Footer.{Footer, footerOf}
+use Rattle.footer.specs.declared.Link.{Link}
+use Rattle.footer.specs.declared.ClusterRow.{ClusterRow}
+use Rattle.footer.specs.declared.FooterAnswer.{FooterAnswer}
+use Rattle.footer.specs.declared.FooterAnswer.the-variants.{Accepted, Refused}
+
+-- the footer read beside its header: the header's refusal first
+unfoldable pub footerBeside : List ℕ → List ℕ → ℕ → Beside Footer
+footerBeside header footer file = beside 2 (λ _. footerOf (checksumOf header) file footer) (headerOf header)
+
+-- a row of the lent table of metadata links: 2 words
+abbrev pub linkWords : Link → List ℕ
+linkWords l = l .size ∷ l .offset ∷ []
+
+-- a row of the lent table of clusters: 4 words
+abbrev pub clusterWords : ClusterRow → List ℕ
+clusterWords c = c .«first_entry» ∷ c .entries ∷ linkWords (c .«page_list»)
+
+-- the words of each table
+
+abbrev pub clusterTable : Footer → List ℕ
+clusterTable f = flat clusterWords (f .clusters)
+
+abbrev pub metadataTable : Footer → List ℕ
+metadataTable f = flat linkWords (f .metadata)
+
+-- tables of c and m words have room for the rows
+abbrev pub roomFor : ℕ → ℕ → Footer → Bool
+roomFor c m f = both (leb (length (f .clusters)) (c / 4)) (leb (length (f .metadata)) (m / 2))
+
+-- the whole answer, for lent tables of c and m words
+unfoldable pub answer : ℕ → ℕ → Beside Footer → FooterAnswer
+answer c m (read f) = pick (roomFor c m f) (Accepted (length (f .clusters)) (length (f .metadata))) (Refused 2 20)
+answer c m (refusal k n) = Refused k n
+
+-- a lent table after the call: the words in front where the footer is accepted, else as it was
+unfoldable pub written : (Footer → List ℕ) → ℕ → ℕ → List ℕ → Beside Footer → List ℕ
+written words c m old (read f) = pick (roomFor c m f) (over (words f) old) old
+written words c m old (refusal k n) = old
+
+-- all that a call leaves, for a footer read beside its header and two lent tables
+pub record Answered (x : Beside Footer) (c₀ c m₀ m : List ℕ) (r : FooterAnswer) : Type 0 where
+  pub answers : r ≡ answer (length c₀) (length m₀) x
+  pub clusters-are : c ≡ written clusterTable (length c₀) (length m₀) c₀ x
+  pub metadata-are : m ≡ written metadataTable (length c₀) (length m₀) m₀ x

@@ -1,0 +1,187 @@
+-- What a call of the header reader leaves, by the header that is read; and tables that say the same.
+use Prim.Native.Nat.{ℕ, zero, suc, _+_, _*_, _<_}
+use mathlib.Core.List.{List, [], _∷_, _++_, map, append-nil, append-assoc}
+use mathlib.Core.Bool.{Bool, true, false}
+use mathlib.Core.Path.{_≡_, refl, sym, ap, _∙_}
+use native.Mathlib.Omega.{arith}
+use lib.ListN.{length, drop, length-map}
+use lib.Seq.{drop-drop}
+use Rattle.numbers.specs.Choice.{pick}
+use Rattle.wire.specs.Reading.{Step, found, refused}
+use Rattle.numbers.specs.Rows.{flat, flatBy, over}
+use Rattle.header.specs.Header.{Lists, Header}
+use Rattle.header.specs.Tables.{headerOf, parentsOf, dark, bit, fieldWords, columnWords, aliasWords, fieldTable, columnTable, aliasTable, roomFor, answer, written, Answered}
+use Rattle.header.specs.declared.FieldRow.{FieldRow}
+use Rattle.header.specs.declared.HeaderTables.{HeaderTables}
+use Rattle.header.specs.declared.HeaderAnswer.{HeaderAnswer}
+use Rattle.header.specs.declared.HeaderAnswer.the-variants.{Accepted, Refused}
+use Rattle.tree.specs.HeaderTree.{FieldContent, HeaderContent, field-content, header-content, parents-in}
+use Rattle.tree.proofs.HeaderLaws.{parents-same}
+use Rattle.forward.specs.SameTables.{FieldSays, field-says, field-row, SameTables}
+
+-- the answer for a header that has room
+abbrev pub answer-of : Header → HeaderTables
+answer-of h =
+    record { texts = h .texts; fields = length (h .lists .fields); columns = length (h .lists .columns); aliases = length (h .lists .aliases) }
+
+-- what an accepting call was given and left
+pub record Called (e f₀ f c₀ c a₀ a : List ℕ) (x : HeaderTables) : Type 0 where
+  pub header : Header
+  pub place : ℕ
+  pub reads : headerOf e ≡ found header place
+  pub room : roomFor (length f₀) (length c₀) (length a₀) (header .lists) ≡ true
+  pub answers : x ≡ answer-of header
+  pub fields : f ≡ over (fieldTable (header .lists)) f₀
+  pub columns : c ≡ over (columnTable (header .lists)) c₀
+  pub aliases : a ≡ over (aliasTable (header .lists)) a₀
+
+not-accepted : {B : Type 0} {x : HeaderTables} {n : ℕ} → Accepted x ≡ Refused n → B
+not-accepted e = let z : _≡_ {A = ℕ} 0 1 = cc in absurd (omega arith)
+
+pub accepted-call : (e f₀ f c₀ c a₀ a : List ℕ) (x : HeaderTables) → Answered (headerOf e) f₀ f c₀ c a₀ a (Accepted x) → Called e f₀ f c₀ c a₀ a x
+unfolding answer written
+accepted-call e f₀ f c₀ c a₀ a x read = by (headerOf e) refl (read .answers) (read .fields-are) (read .columns-are) (read .aliases-are)
+  where
+    with-room : (h : Header) (q : ℕ) → headerOf e ≡ found h q → (b : Bool) → roomFor (length f₀) (length c₀) (length a₀) (h .lists) ≡ b
+        → Accepted x ≡ pick b (Accepted (answer-of h)) (Refused 20) → f ≡ pick b (over (fieldTable (h .lists)) f₀) f₀
+        → c ≡ pick b (over (columnTable (h .lists)) c₀) c₀ → a ≡ pick b (over (aliasTable (h .lists)) a₀) a₀ → Called e f₀ f c₀ c a₀ a x
+    with-room h q reads true room r s t u = record {
+      header = h;
+      place = q;
+      reads = reads;
+      room = room;
+      answers = cc;
+      fields = s;
+      columns = t;
+      aliases = u;
+    }
+    with-room h q reads false room r s t u = not-accepted r
+
+    by : (y : Step Header) → headerOf e ≡ y → Accepted x ≡ answer (length f₀) (length c₀) (length a₀) y
+        → f ≡ written fieldTable (length f₀) (length c₀) (length a₀) f₀ y → c ≡ written columnTable (length f₀) (length c₀) (length a₀) c₀ y
+        → a ≡ written aliasTable (length f₀) (length c₀) (length a₀) a₀ y → Called e f₀ f c₀ c a₀ a x
+    by (found h q) reads r s t u = with-room h q reads (roomFor (length f₀) (length c₀) (length a₀) (h .lists)) refl r s t u
+    by (refused g) reads r s t u = not-accepted r
+
+-- a call for a header that has room accepts
+pub roomy-call : (e f₀ f c₀ c a₀ a : List ℕ) (r : HeaderAnswer) (h : Header) (q : ℕ) → headerOf e ≡ found h q
+    → roomFor (length f₀) (length c₀) (length a₀) (h .lists) ≡ true → Answered (headerOf e) f₀ f c₀ c a₀ a r
+    → (r ≡ Accepted (answer-of h)) × (f ≡ over (fieldTable (h .lists)) f₀) × (c ≡ over (columnTable (h .lists)) c₀) × (a ≡ over (aliasTable (h .lists)) a₀)
+unfolding answer written
+roomy-call e f₀ f c₀ c a₀ a r h q reads room read =
+    let F = length f₀ in
+    let C = length c₀ in
+    let A = length a₀ in
+    let r-is : r ≡ Accepted (answer-of h) = read .answers ∙ ap (answer F C A) reads ∙ rw room refl in
+    let f-is : f ≡ over (fieldTable (h .lists)) f₀ = read .fields-are ∙ ap (written fieldTable F C A f₀) reads ∙ rw room refl in
+    let c-is : c ≡ over (columnTable (h .lists)) c₀ = read .columns-are ∙ ap (written columnTable F C A c₀) reads ∙ rw room refl in
+    let a-is : a ≡ over (aliasTable (h .lists)) a₀ = read .aliases-are ∙ ap (written aliasTable F C A a₀) reads ∙ rw room refl in
+    (r-is, f-is, c-is, a-is)
+
+-- rows of fields
+
+abbrev says : ℕ → FieldContent → FieldSays
+says d c =
+    record {
+      field-version = c .head .«field_version»;
+      type-version = c .head .«type_version»;
+      parent = c .head .parent .0;
+      role = c .head .role;
+      flags = c .head .flags;
+      repetition = c .head .repetition;
+      name = c .texts .name;
+      type-name = c .texts .type-name;
+      type-alias = c .texts .type-alias;
+      description = c .texts .description;
+      dark = d;
+    }
+
+row-says : (e : List ℕ) (d : ℕ) (r : FieldRow) (rest : List ℕ) → field-says e (drop (15 * 0) (fieldWords d r ++ rest)) ≡ says d (field-content e r)
+unfolding fieldWords
+row-says e d r rest = refl
+
+row-past : (d k : ℕ) (r : FieldRow) (rest : List ℕ) → drop (15 * suc k) (fieldWords d r ++ rest) ≡ drop (15 * k) rest
+unfolding fieldWords
+row-past d k r rest =
+    let more : 15 * suc k ≡ 15 + 15 * k = omega arith in
+    ap (λ (n : ℕ). drop n (fieldWords d r ++ rest)) more ∙ sym (drop-drop (15 * k) 15 (fieldWords d r ++ rest))
+
+abbrev rows-from : (ℕ → ℕ) → ℕ → List FieldRow → List ℕ
+rows-from d n rows = flatBy (λ i. fieldWords (d i)) n rows
+
+-- earlier rows of the same contents and marks say the same, whatever rows follow
+rows-say : (e e′ : List ℕ) (d d′ : ℕ → ℕ) (rest rest′ : List ℕ) (extra : List FieldContent) (rows rows′ : List FieldRow) (n k : ℕ)
+    → map (field-content e′) rows′ ≡ map (field-content e) rows ++ extra → ((i : ℕ) → i < n + length rows → d′ i ≡ d i) → k < length rows
+    → field-says e′ (drop (15 * k) (rows-from d′ n rows′ ++ rest′)) ≡ field-says e (drop (15 * k) (rows-from d n rows ++ rest))
+unfolding flatBy
+rows-say e e′ d d′ rest rest′ extra [] rows′ n k same marks less = absurd (omega arith)
+rows-say e e′ d d′ rest rest′ extra (r ∷ rs) [] n k same marks less = let z : _≡_ {A = ℕ} 0 1 = cc in absurd (omega arith)
+rows-say e e′ d d′ rest rest′ extra (r ∷ rs) (r′ ∷ rs′) n zero same marks less =
+    let first : field-content e′ r′ ≡ field-content e r = cc in
+    let mark : d′ n ≡ d n = marks n (omega arith) in
+    let w = fieldWords (d n) r in
+    let w′ = fieldWords (d′ n) r′ in
+    let x = rows-from d (suc n) rs in
+    let x′ = rows-from d′ (suc n) rs′ in
+    ap (λ (l : List ℕ). field-says e′ (drop (15 * 0) l)) (append-assoc w′ x′ rest′) ∙ row-says e′ (d′ n) r′ (x′ ++ rest′)
+    ∙ (λ i. says (mark i) (first i))
+    ∙ sym (ap (λ (l : List ℕ). field-says e (drop (15 * 0) l)) (append-assoc w x rest) ∙ row-says e (d n) r (x ++ rest))
+rows-say e e′ d d′ rest rest′ extra (r ∷ rs) (r′ ∷ rs′) n (suc k) same marks less =
+    let later : map (field-content e′) rs′ ≡ map (field-content e) rs ++ extra = cc in
+    let w = fieldWords (d n) r in
+    let w′ = fieldWords (d′ n) r′ in
+    let x = rows-from d (suc n) rs in
+    let x′ = rows-from d′ (suc n) rs′ in
+    ap (λ (l : List ℕ). field-says e′ (drop (15 * suc k) l)) (append-assoc w′ x′ rest′) ∙ ap (field-says e′) (row-past (d′ n) k r′ (x′ ++ rest′))
+    ∙ rows-say e e′ d d′ rest rest′ extra rs rs′ (suc n) k later (λ i l. marks i (omega arith)) (omega arith)
+    ∙ sym (ap (λ (l : List ℕ). field-says e (drop (15 * suc k) l)) (append-assoc w x rest) ∙ ap (field-says e) (row-past (d n) k r (x ++ rest)))
+
+-- the dark mark of field i
+abbrev pub mark : Lists → ℕ → Bool
+mark l i = dark (parentsOf (l .fields)) (l .columns) i
+
+-- the rows of l in e are the first of l′ in e′
+pub fields-say : (e e′ f₀ f₀′ : List ℕ) (l l′ : Lists) (extra : List FieldContent) → map (field-content e′) (l′ .fields) ≡ map (field-content e) (l .fields) ++ extra
+    → ((i : ℕ) → i < length (l .fields) → mark l′ i ≡ mark l i) → (i : ℕ) → i < length (l .fields)
+    → field-says e′ (field-row (over (fieldTable l′) f₀′) i) ≡ field-says e (field-row (over (fieldTable l) f₀) i)
+fields-say e e′ f₀ f₀′ l l′ extra same marks i less =
+    rows-say e e′ (λ j. bit (mark l j)) (λ j. bit (mark l′ j)) (drop (length (fieldTable l)) f₀) (drop (length (fieldTable l′)) f₀′) extra (l .fields) (l′ .fields) 0 i same
+    (λ j h. ap bit (marks j (omega arith))) less
+
+-- the mark hangs on the contents alone
+pub mark-same : (e e′ : List ℕ) (h h′ : Header) → header-content e′ h′ ≡ header-content e h → (i : ℕ) → mark (h′ .lists) i ≡ mark (h .lists) i
+unfolding header-content
+mark-same e e′ h h′ same i =
+    ap (λ (l : List ℕ). dark l (h′ .lists .columns) i) (parents-same e′ (h′ .lists .fields)) ∙ ap (λ (c : HeaderContent). dark (parents-in (c .fields)) (c .columns) i) same
+    ∙ sym (ap (λ (l : List ℕ). dark l (h .lists .columns) i) (parents-same e (h .lists .fields)))
+
+pub field-counts : (e e′ : List ℕ) (h h′ : Header) → header-content e′ h′ ≡ header-content e h → length (h′ .lists .fields) ≡ length (h .lists .fields)
+unfolding header-content
+field-counts e e′ h h′ same =
+    sym (length-map (h′ .lists .fields) (field-content e′)) ∙ ap (λ (t : HeaderContent). length (t .fields)) same ∙ length-map (h .lists .fields) (field-content e)
+
+-- equal contents: rows have the same room, and the tables are the same
+
+pub same-room : (e e′ : List ℕ) (h h′ : Header) (f c a : ℕ) → header-content e′ h′ ≡ header-content e h → roomFor f c a (h .lists) ≡ true
+    → roomFor f c a (h′ .lists) ≡ true
+unfolding header-content
+same-room e e′ h h′ f c a same room =
+    let fields = field-counts e e′ h h′ same in
+    let columns : length (h′ .lists .columns) ≡ length (h .lists .columns) = ap (λ (t : HeaderContent). length (t .columns)) same in
+    let aliases : length (h′ .lists .aliases) ≡ length (h .lists .aliases) = ap (λ (t : HeaderContent). length (t .aliases)) same in
+    rw (fields, columns, aliases) room
+
+pub same-tables : (e e′ f₀ c₀ a₀ : List ℕ) (h h′ : Header) → header-content e′ h′ ≡ header-content e h
+    → SameTables e (over (fieldTable (h .lists)) f₀) (over (columnTable (h .lists)) c₀) (over (aliasTable (h .lists)) a₀) (answer-of h) e′ (over (fieldTable (h′ .lists)) f₀) (over (columnTable (h′ .lists)) c₀) (over (aliasTable (h′ .lists)) a₀) (answer-of h′)
+unfolding header-content
+same-tables e e′ f₀ c₀ a₀ h h′ same =
+    record {
+      field-count = field-counts e e′ h h′ same;
+      column-count = ap (λ (t : HeaderContent). length (t .columns)) same;
+      alias-count = ap (λ (t : HeaderContent). length (t .aliases)) same;
+      name = ap (λ (t : HeaderContent). t .name) same;
+      description = ap (λ (t : HeaderContent). t .description) same;
+      fields = fields-say e e′ f₀ f₀ (h .lists) (h′ .lists) [] (ap (λ (t : HeaderContent). t .fields) same ∙ sym (append-nil (map (field-content e) (h .lists .fields)))) (λ i _. mark-same e e′ h h′ same i);
+      columns = ap (λ (t : HeaderContent). over (flat columnWords (t .columns)) c₀) same;
+      aliases = ap (λ (t : HeaderContent). over (flat aliasWords (t .aliases)) a₀) same;
+    }

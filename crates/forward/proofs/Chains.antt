@@ -1,0 +1,114 @@
+-- Parent chains after self-parented fields have been appended.
+use Prim.Native.Nat.{ℕ, zero, suc, _+_, _≤_, _<_}
+use mathlib.Core.List.{List, _++_}
+use mathlib.Core.Bool.{Bool, true, false}
+use mathlib.Core.Path.{_≡_, refl, sym, ap, _∙_}
+use native.Mathlib.Omega.{arith}
+use native.Mathlib.Nat.{suc-add, zero-add}
+use lib.Dec.{eqb, leb}
+use borrow.Author.Tests.{eqb-true, eqb-false, eq-eqb, ne-eqb, leb-true, leb-false}
+use lib.ListN.{length, getD, length-append, List·getD-append}
+use Rattle.numbers.specs.Choice.{pick}
+use Rattle.header.specs.Parents.{topLevel, meets, reaches, allReach, isAbove}
+use Rattle.tree.proofs.Simple.{both-true}
+
+-- every field's parent is a field
+abbrev pub Closed-under : List ℕ → Type 0
+Closed-under parents = (f : ℕ) → f < length parents → getD parents f 0 < length parents
+
+-- more moves reach no less
+pub reaches-more : (parents : List ℕ) (k j f : ℕ) → reaches parents k f ≡ true → reaches parents (k + j) f ≡ true
+unfolding meets
+reaches-more parents zero zero f e = e
+reaches-more parents zero (suc j) f e = rw (zero-add (suc j), e) refl
+reaches-more parents (suc k) j f e = rw (suc-add k j) (go (topLevel parents f) e (reaches-more parents k j (getD parents f 0)))
+  where
+    go : (b : Bool) → pick b true (reaches parents k (getD parents f 0)) ≡ true
+        → (reaches parents k (getD parents f 0) ≡ true → reaches parents (k + j) (getD parents f 0) ≡ true)
+        → pick b true (reaches parents (k + j) (getD parents f 0)) ≡ true
+    go true h later = refl
+    go false h later = later h
+
+-- a self-parented field is reached in any number of moves
+pub reaches-top : (parents : List ℕ) (k f : ℕ) → topLevel parents f ≡ true → reaches parents k f ≡ true
+unfolding meets
+reaches-top parents zero f e = e
+reaches-top parents (suc k) f e = rw e refl
+
+-- from a self-parented field no other is reached
+above-top : (parents : List ℕ) (k f g : ℕ) → topLevel parents g ≡ true → isAbove parents k f g ≡ eqb f g
+unfolding meets
+above-top parents zero f g e = refl
+above-top parents (suc k) f g e =
+    let same : getD parents g 0 ≡ g = eqb-true (getD parents g 0) g e in
+    rw (same, above-top parents k f g e) (go (eqb f g))
+  where
+    go : (b : Bool) → pick b true b ≡ b
+    go true = refl
+    go false = refl
+
+-- more moves find no more, once the chain has ended
+above-more : (parents : List ℕ) (k j f g : ℕ) → reaches parents k g ≡ true → isAbove parents (k + j) f g ≡ isAbove parents k f g
+unfolding meets
+above-more parents zero j f g e = above-top parents (0 + j) f g e
+above-more parents (suc k) j f g e = go (topLevel parents g) refl e (above-more parents k j f (getD parents g 0))
+  where
+    go : (b : Bool) → topLevel parents g ≡ b → pick b true (reaches parents k (getD parents g 0)) ≡ true
+        → (reaches parents k (getD parents g 0) ≡ true → isAbove parents (k + j) f (getD parents g 0) ≡ isAbove parents k f (getD parents g 0))
+        → isAbove parents (suc k + j) f g ≡ isAbove parents (suc k) f g
+    go true t h later = above-top parents (suc k + j) f g t ∙ sym (above-top parents (suc k) f g t)
+    go false t h later = rw (suc-add k j, later h) refl
+
+module _ (parents new : List ℕ) (closed : Closed-under parents) where
+  -- the appended fields change no earlier chain
+  old-reaches : (k f : ℕ) → f < length parents → reaches (parents ++ new) k f ≡ reaches parents k f
+  unfolding meets
+  old-reaches zero f h = rw (List·getD-append parents new 0 f h) refl
+  old-reaches (suc k) f h = rw (List·getD-append parents new 0 f h, old-reaches k (getD parents f 0) (closed f h)) refl
+
+  old-above : (k f g : ℕ) → g < length parents → isAbove (parents ++ new) k f g ≡ isAbove parents k f g
+  unfolding meets
+  old-above zero f g h = refl
+  old-above (suc k) f g h = rw (List·getD-append parents new 0 g h, old-above k f (getD parents g 0) (closed g h)) refl
+
+-- every field reaches a self-parented one: each, and all
+pub reach-each : (parents : List ℕ) (n f : ℕ) → allReach parents n ≡ true → f < n → reaches parents (length parents) f ≡ true
+unfolding allReach
+reach-each parents zero f e h = absurd (omega arith)
+reach-each parents (suc n) f e h =
+    let (before, last) = both-true (allReach parents n) (reaches parents (length parents) n) e in
+    go (eqb f n) refl last (reach-each parents n f before)
+  where
+    go : (b : Bool) → eqb f n ≡ b → reaches parents (length parents) n ≡ true → (f < n → reaches parents (length parents) f ≡ true)
+        → reaches parents (length parents) f ≡ true
+    go true t last earlier = rw (eqb-true f n t) last
+    go false t last earlier = let other : f ≡ n → ⊥ = eqb-false f n t in earlier (omega arith)
+
+pub reach-all : (parents : List ℕ) (n : ℕ) → ((f : ℕ) → f < n → reaches parents (length parents) f ≡ true) → allReach parents n ≡ true
+unfolding allReach
+reach-all parents zero h = refl
+reach-all parents (suc n) h = rw (reach-all parents n (λ f l. h f (omega arith)), h n (omega arith)) refl
+
+-- appended fields are self-parented: from number n on, each is its own parent
+abbrev pub Tops : List ℕ → ℕ → Type 0
+Tops parents n = (f : ℕ) → n ≤ f → f < length parents → getD parents f 0 ≡ f
+
+module _ (parents new : List ℕ) (closed : Closed-under parents) (reach : allReach parents (length parents) ≡ true) (tops : Tops (parents ++ new) (length parents)) where
+  pub reach-appended : allReach (parents ++ new) (length (parents ++ new)) ≡ true
+  reach-appended = reach-all (parents ++ new) (length (parents ++ new)) (λ f h. go f h (leb (suc f) (length parents)) refl)
+    where
+      go : (f : ℕ) → f < length (parents ++ new) → (b : Bool) → leb (suc f) (length parents) ≡ b
+          → reaches (parents ++ new) (length (parents ++ new)) f ≡ true
+      go f h true t =
+          let less : f < length parents = leb-true (suc f) (length parents) t in
+          rw (length-append parents new) (reaches-more (parents ++ new) (length parents) (length new) f (old-reaches parents new closed (length parents) f less ∙ reach-each parents (length parents) f reach less))
+      go f h false t =
+          let more : length parents < suc f = leb-false (suc f) (length parents) t in
+          reaches-top (parents ++ new) (length (parents ++ new)) f (eq-eqb (getD (parents ++ new) f 0) f (tops f (omega arith) h))
+
+  pub above-appended : (f g : ℕ) → g < length parents → isAbove (parents ++ new) (length (parents ++ new)) f g ≡ isAbove parents (length parents) f g
+  above-appended f g h = old-above parents new closed (length (parents ++ new)) f g h ∙ ap (λ (k : ℕ). isAbove parents k f g) (length-append parents new) ∙ above-more parents (length parents) (length new) f g (reach-each parents (length parents) g reach h)
+
+  pub not-above : (f g : ℕ) → f < length parents → length parents ≤ g → g < length (parents ++ new)
+      → isAbove (parents ++ new) (length (parents ++ new)) f g ≡ false
+  not-above f g h l m = above-top (parents ++ new) (length (parents ++ new)) f g (eq-eqb (getD (parents ++ new) g 0) g (tops g l m)) ∙ ne-eqb f g (λ e. omega arith)

@@ -1,0 +1,235 @@
+-- The rules of reading, run on bytes that another program wrote: document 01's smallest header, footer and page list; a header with a field
+-- and a column, a footer with a cluster and a metadata link, a page list with a page.
+use Prim.Native.Nat.{ℕ}
+use mathlib.Core.List.{List, [], _∷_}
+use mathlib.Core.Bool.{false}
+use mathlib.Core.Path.{_≡_, refl}
+use Rattle.numbers.specs.Numbers.{little}
+use Rattle.checksum.specs.Crc.{shifted, bits, byte, fold, crc32}
+use Rattle.wire.specs.Reading.{found, refused, recordOf, listOf, items, number, judged, string, ascii, frameSize, recordHead, listStop, countJudged, inItem}
+use Rattle.wire.specs.Envelope.{versioned, opened, checksumOf}
+use Rattle.wire.specs.declared.Kind.the-variants.{Number, Total}
+use Rattle.column_type.specs.Types.{known, widthOf, widths}
+use Rattle.wire.specs.Features.{features}
+use Rattle.header.specs.Header.{Header, repetition, fieldHead, fieldTexts, field, column, alias, columnsAfter, aliasesAfter, lists, texts, payload}
+use Rattle.header.specs.Parents.{meets, allReach}
+use Rattle.numbers.specs.Rows.{flat, flatBy}
+use Rattle.header.specs.Tables.{headerOf, chained, answer, written, fieldWords, columnWords, aliasWords, dark, Answered}
+use Rattle.header.specs.declared.HeaderTables.{HeaderTables}
+use Rattle.header.specs.declared.HeaderAnswer.the-variants.{Accepted}
+use Rattle.footer.specs.Footer.{footerOf, link, cluster, entriesOf, payload as footer-payload}
+use Rattle.footer.specs.Tables.{footerBeside, answer as footer-answer, written as footer-written, Answered as AnsweredFooter}
+use Rattle.footer.specs.declared.FooterAnswer.the-variants.{Accepted as AcceptedFooter}
+use Rattle.page_list.specs.Tables.{pageListBeside, answer as pages-answer, written as pages-written, Answered as AnsweredPages}
+use Rattle.page_list.specs.declared.PageListAnswer.the-variants.{Accepted as AcceptedPages}
+use Rattle.page_list.specs.PageList.{pageListOf, summed, pages, page, pagesOf, totals, totalOf, elementsOf, payload as page-payload}
+use Rattle.tree.specs.Bytes.{spelled}
+use Rattle.tree.specs.EnvelopeTree.{unsummed, sealed}
+use Rattle.tree.specs.HeaderTree.{feature-words, texts-shape, lists-shape, payload-shape, head-shape, strings-shape, field-shape, column-shape, render-header}
+use Rattle.tree.specs.FooterTree.{FooterTree, footer-shape, cluster-shape, link-shape, render-footer}
+use Rattle.tree.specs.PageListTree.{PageListTree, page-list-shape, pages-shape, page-shape, render-page-list}
+use Rattle.forward.proofs.Samples.{smallest, with-field}
+
+-- headers
+
+abbrev pub smallest-header : List ℕ
+smallest-header =
+    1 ∷ 0 ∷ 1 ∷ 0 ∷ 0 ∷ 0 ∷ 0 ∷ 0 ∷ 0 ∷ 0 ∷ 0 ∷ 0 ∷ 0 ∷ 0 ∷ 0 ∷ 0 ∷ 0 ∷ 0 ∷ 0 ∷ 0 ∷ 248 ∷ 255 ∷ 255 ∷ 255 ∷ 0 ∷ 0 ∷ 0 ∷ 0 ∷ 248 ∷
+    255 ∷ 255 ∷ 255 ∷ 0 ∷ 0 ∷ 0 ∷ 0 ∷ 248 ∷ 255 ∷ 255 ∷ 255 ∷ 0 ∷ 0 ∷ 0 ∷ 0 ∷ 104 ∷ 189 ∷ 182 ∷ 27 ∷ []
+
+abbrev pub small : Header
+small =
+    record {
+      texts = record { name = record { place = 16; len = 0 }; description = record { place = 20; len = 0 } };
+      lists = record { fieldsAt = 20; fields = []; columnsAt = 28; columns = []; aliasesAt = 36; aliases = [] };
+    }
+
+pub smallest-header-read : headerOf smallest-header ≡ found small 44
+unfolding versioned opened recordOf listOf items number judged string ascii frameSize recordHead listStop countJudged little crc32 fold byte bits shifted features headerOf chained payload texts lists columnsAfter aliasesAfter repetition fieldHead fieldTexts field column alias known widthOf widths allReach meets
+smallest-header-read = refl
+
+pub smallest-header-rendered : render-header smallest ≡ smallest-header
+unfolding sealed unsummed payload-shape texts-shape lists-shape feature-words spelled crc32 fold byte bits shifted
+smallest-header-rendered = refl
+
+abbrev pub field-header : List ℕ
+field-header =
+    1 ∷ 0 ∷ 1 ∷ 0 ∷ 0 ∷ 0 ∷ 0 ∷ 0 ∷ 0 ∷ 0 ∷ 0 ∷ 0 ∷ 0 ∷ 0 ∷ 0 ∷ 0 ∷ 0 ∷ 0 ∷ 0 ∷ 0 ∷ 211 ∷ 255 ∷ 255 ∷ 255 ∷ 1 ∷ 0 ∷ 0 ∷ 0 ∷ 37 ∷
+    0 ∷ 0 ∷ 0 ∷ 0 ∷ 0 ∷ 0 ∷ 0 ∷ 0 ∷ 0 ∷ 0 ∷ 0 ∷ 0 ∷ 0 ∷ 0 ∷ 0 ∷ 0 ∷ 0 ∷ 0 ∷ 0 ∷ 1 ∷ 0 ∷ 0 ∷ 0 ∷ 97 ∷ 0 ∷ 0 ∷ 0 ∷ 0 ∷ 0 ∷ 0 ∷ 0 ∷
+    0 ∷ 0 ∷ 0 ∷ 0 ∷ 0 ∷ 232 ∷ 255 ∷ 255 ∷ 255 ∷ 1 ∷ 0 ∷ 0 ∷ 0 ∷ 16 ∷ 0 ∷ 0 ∷ 0 ∷ 1 ∷ 0 ∷ 64 ∷ 0 ∷ 0 ∷ 0 ∷ 0 ∷ 0 ∷ 0 ∷ 0 ∷ 0 ∷ 0 ∷
+    248 ∷ 255 ∷ 255 ∷ 255 ∷ 0 ∷ 0 ∷ 0 ∷ 0 ∷ 169 ∷ 228 ∷ 198 ∷ 166 ∷ []
+
+abbrev pub one : Header
+one =
+    record {
+      texts = record { name = record { place = 16; len = 0 }; description = record { place = 20; len = 0 } };
+      lists = record {
+        fieldsAt = 20;
+        fields =
+            record {
+              head = record { «field_version» = 0; «type_version» = 0; parent = record { 0 = 0 }; role = 0; flags = 0; repetition = 0 };
+              texts = record {
+                name = record { place = 52; len = 1 };
+                «type_name» = record { place = 57; len = 0 };
+                «type_alias» = record { place = 61; len = 0 };
+                description = record { place = 65; len = 0 };
+              };
+            } ∷ [];
+        columnsAt = 65;
+        columns = record { «column_type» = 1; bits = 64; field = record { 0 = 0 }; flags = 0 } ∷ [];
+        aliasesAt = 89;
+        aliases = [];
+      };
+    }
+
+pub field-header-read : headerOf field-header ≡ found one 97
+unfolding versioned opened recordOf listOf items number judged string ascii frameSize recordHead listStop countJudged little crc32 fold byte bits shifted features headerOf chained payload texts lists columnsAfter aliasesAfter repetition fieldHead fieldTexts field column alias known widthOf widths allReach meets
+field-header-read = refl
+
+pub field-header-rendered : render-header with-field ≡ field-header
+unfolding sealed unsummed payload-shape texts-shape lists-shape feature-words spelled field-shape head-shape strings-shape column-shape crc32 fold byte bits shifted
+field-header-rendered = refl
+
+-- footers
+
+abbrev pub smallest-footer : List ℕ
+smallest-footer =
+    1 ∷ 0 ∷ 1 ∷ 0 ∷ 0 ∷ 0 ∷ 0 ∷ 0 ∷ 0 ∷ 0 ∷ 0 ∷ 0 ∷ 104 ∷ 189 ∷ 182 ∷ 27 ∷ 248 ∷ 255 ∷ 255 ∷ 255 ∷ 0 ∷ 0 ∷ 0 ∷ 0 ∷ 248 ∷ 255 ∷
+    255 ∷ 255 ∷ 0 ∷ 0 ∷ 0 ∷ 0 ∷ 248 ∷ 255 ∷ 255 ∷ 255 ∷ 0 ∷ 0 ∷ 0 ∷ 0 ∷ 248 ∷ 255 ∷ 255 ∷ 255 ∷ 0 ∷ 0 ∷ 0 ∷ 0 ∷ 159 ∷ 216 ∷ 134 ∷
+    69 ∷ []
+
+pub smallest-footer-read : footerOf (checksumOf smallest-header) 0 smallest-footer ≡ found (record { clusters = []; metadata = [] }) 48
+unfolding versioned opened recordOf listOf items number judged string ascii frameSize recordHead listStop countJudged little crc32 fold byte bits shifted features footerOf footer-payload link cluster entriesOf
+smallest-footer-read = refl
+
+abbrev pub cluster-footer : List ℕ
+cluster-footer =
+    1 ∷ 0 ∷ 1 ∷ 0 ∷ 0 ∷ 0 ∷ 0 ∷ 0 ∷ 0 ∷ 0 ∷ 0 ∷ 0 ∷ 169 ∷ 228 ∷ 198 ∷ 166 ∷ 248 ∷ 255 ∷ 255 ∷ 255 ∷ 0 ∷ 0 ∷ 0 ∷ 0 ∷ 248 ∷ 255 ∷
+    255 ∷ 255 ∷ 0 ∷ 0 ∷ 0 ∷ 0 ∷ 212 ∷ 255 ∷ 255 ∷ 255 ∷ 1 ∷ 0 ∷ 0 ∷ 0 ∷ 36 ∷ 0 ∷ 0 ∷ 0 ∷ 0 ∷ 0 ∷ 0 ∷ 0 ∷ 0 ∷ 0 ∷ 0 ∷ 0 ∷ 3 ∷ 0 ∷
+    0 ∷ 0 ∷ 0 ∷ 0 ∷ 0 ∷ 0 ∷ 40 ∷ 0 ∷ 0 ∷ 0 ∷ 40 ∷ 0 ∷ 0 ∷ 0 ∷ 100 ∷ 0 ∷ 0 ∷ 0 ∷ 0 ∷ 0 ∷ 0 ∷ 0 ∷ 232 ∷ 255 ∷ 255 ∷ 255 ∷ 1 ∷ 0 ∷
+    0 ∷ 0 ∷ 7 ∷ 0 ∷ 0 ∷ 0 ∷ 7 ∷ 0 ∷ 0 ∷ 0 ∷ 0 ∷ 0 ∷ 0 ∷ 0 ∷ 0 ∷ 0 ∷ 0 ∷ 0 ∷ 198 ∷ 217 ∷ 241 ∷ 43 ∷ []
+
+-- the cluster's page list ends at the file's last byte
+pub cluster-footer-read : footerOf (checksumOf field-header) 140 cluster-footer ≡ found (record {
+  clusters = record { «first_entry» = 0; entries = 3; «page_list» = record { size = 40; offset = 100 } } ∷ [];
+  metadata = record { size = 7; offset = 0 } ∷ [];
+}) 100
+unfolding versioned opened recordOf listOf items number judged string ascii frameSize recordHead listStop countJudged little crc32 fold byte bits shifted features footerOf footer-payload link cluster entriesOf
+cluster-footer-read = refl
+
+-- one byte further than the file
+pub cluster-footer-outside : footerOf (checksumOf field-header) 139 cluster-footer ≡ refused (record { number = 18; place = 68; kind = Number; list = 32; item = 0 })
+unfolding inItem versioned opened recordOf listOf items number judged string ascii frameSize recordHead listStop countJudged little crc32 fold byte bits shifted features footerOf footer-payload link cluster entriesOf
+cluster-footer-outside = refl
+
+-- beside another header
+pub cluster-footer-stale : footerOf (checksumOf smallest-header) 140 cluster-footer ≡ refused (record { number = 16; place = 12; kind = Number; list = 0; item = 0 })
+unfolding versioned opened recordOf listOf items number judged string ascii frameSize recordHead listStop countJudged little crc32 fold byte bits shifted features footerOf footer-payload link cluster entriesOf
+cluster-footer-stale = refl
+
+abbrev footer-tree : FooterTree
+footer-tree =
+    record {
+      version = 1;
+      minimum = 1;
+      inside = record {
+        words = 0;
+        checksum = checksumOf field-header;
+        extensions = record { inside = []; spare = [] };
+        groups = record { inside = []; spare = [] };
+        clusters = record {
+          inside = record { inside = record { first = 0; entries = 3; link = record { size = 40; stored = 40; offset = 100 } }; spare = [] } ∷ [];
+          spare = [];
+        };
+        metadata = record { inside = record { size = 7; stored = 7; offset = 0 } ∷ []; spare = [] };
+      };
+      spare = [];
+    }
+
+pub cluster-footer-rendered : render-footer footer-tree ≡ cluster-footer
+unfolding sealed unsummed footer-shape cluster-shape link-shape feature-words spelled little crc32 fold byte bits shifted
+cluster-footer-rendered = refl
+
+-- page lists
+
+abbrev pub smallest-page-list : List ℕ
+smallest-page-list =
+    1 ∷ 0 ∷ 1 ∷ 0 ∷ 248 ∷ 255 ∷ 255 ∷ 255 ∷ 0 ∷ 0 ∷ 0 ∷ 0 ∷ 177 ∷ 200 ∷ 170 ∷ 159 ∷ []
+
+pub smallest-page-list-read : pageListOf small 0 0 smallest-page-list ≡ found [] 12
+unfolding versioned opened recordOf listOf items number judged string ascii frameSize recordHead listStop countJudged little crc32 fold byte bits shifted features pageListOf page-payload summed pages page pagesOf totals totalOf elementsOf known
+smallest-page-list-read = refl
+
+abbrev pub one-page-list : List ℕ
+one-page-list =
+    1 ∷ 0 ∷ 1 ∷ 0 ∷ 224 ∷ 255 ∷ 255 ∷ 255 ∷ 1 ∷ 0 ∷ 0 ∷ 0 ∷ 232 ∷ 255 ∷ 255 ∷ 255 ∷ 1 ∷ 0 ∷ 0 ∷ 0 ∷ 3 ∷ 0 ∷ 0 ∷ 0 ∷ 24 ∷ 0 ∷ 0 ∷
+    0 ∷ 50 ∷ 0 ∷ 0 ∷ 0 ∷ 0 ∷ 0 ∷ 0 ∷ 0 ∷ 50 ∷ 21 ∷ 194 ∷ 233 ∷ []
+
+pub one-page-list-read : pageListOf one 3 74 one-page-list ≡ found ((record { column = 0; elements = 3; checksum = false; size = 24; offset = 50 } ∷ []) ∷ []) 36
+unfolding versioned opened recordOf listOf items number judged string ascii frameSize recordHead listStop countJudged little crc32 fold byte bits shifted features pageListOf page-payload summed pages page pagesOf totals totalOf elementsOf known
+one-page-list-read = refl
+
+-- the cluster has another entry count
+pub one-page-list-other : pageListOf one 4 74 one-page-list ≡ refused (record { number = 19; place = 0; kind = Total; list = 0; item = 0 })
+unfolding versioned opened recordOf listOf items number judged string ascii frameSize recordHead listStop countJudged little crc32 fold byte bits shifted features pageListOf page-payload summed pages page pagesOf totals totalOf elementsOf known
+one-page-list-other = refl
+
+abbrev page-list-tree : PageListTree
+page-list-tree =
+    record {
+      version = 1;
+      minimum = 1;
+      inside = record { inside = record { inside = record { word = 3; size = 24; offset = 50 } ∷ []; spare = [] } ∷ []; spare = [] };
+      spare = [];
+    }
+
+pub one-page-list-rendered : render-page-list page-list-tree ≡ one-page-list
+unfolding sealed unsummed page-list-shape pages-shape page-shape spelled crc32 fold byte bits shifted
+one-page-list-rendered = refl
+
+-- accepting calls: the tables that are lent, and what the calls leave in them
+
+abbrev pub lent-fields : List ℕ
+lent-fields = 0 ∷ 0 ∷ 0 ∷ 0 ∷ 0 ∷ 0 ∷ 0 ∷ 0 ∷ 0 ∷ 0 ∷ 0 ∷ 0 ∷ 0 ∷ 0 ∷ 0 ∷ []
+
+abbrev pub left-fields : List ℕ
+left-fields = 0 ∷ 0 ∷ 0 ∷ 0 ∷ 0 ∷ 0 ∷ 52 ∷ 1 ∷ 57 ∷ 0 ∷ 61 ∷ 0 ∷ 65 ∷ 0 ∷ 0 ∷ []
+
+abbrev pub lent-columns : List ℕ
+lent-columns = 9 ∷ 9 ∷ 9 ∷ 9 ∷ []
+
+abbrev pub left-columns : List ℕ
+left-columns = 1 ∷ 64 ∷ 0 ∷ 0 ∷ []
+
+abbrev pub header-answer : HeaderTables
+header-answer = record { texts = one .texts; fields = 1; columns = 1; aliases = 0 }
+
+pub header-call : Answered (headerOf field-header) lent-fields left-fields lent-columns left-columns [] [] (Accepted header-answer)
+unfolding answer written fieldWords columnWords aliasWords flat flatBy dark known meets
+header-call = rw field-header-read (record { answers = refl; fields-are = refl; columns-are = refl; aliases-are = refl })
+
+abbrev pub lent-clusters : List ℕ
+lent-clusters = 9 ∷ 9 ∷ 9 ∷ 9 ∷ []
+
+abbrev pub left-clusters : List ℕ
+left-clusters = 0 ∷ 3 ∷ 40 ∷ 100 ∷ []
+
+abbrev pub lent-links : List ℕ
+lent-links = 9 ∷ 9 ∷ 9 ∷ []
+
+abbrev pub left-links : List ℕ
+left-links = 7 ∷ 0 ∷ 9 ∷ []
+
+pub footer-call : AnsweredFooter (footerBeside field-header cluster-footer 140) lent-clusters left-clusters lent-links left-links (AcceptedFooter 1 1)
+unfolding footerBeside footer-answer footer-written flat
+footer-call = rw (field-header-read, cluster-footer-read) (record { answers = refl; clusters-are = refl; metadata-are = refl })
+
+abbrev pub lent-pages : List ℕ
+lent-pages = 9 ∷ 9 ∷ 9 ∷ 9 ∷ 9 ∷ 9 ∷ []
+
+abbrev pub left-pages : List ℕ
+left-pages = 0 ∷ 3 ∷ 0 ∷ 24 ∷ 50 ∷ 9 ∷ []
+
+pub page-list-call : AnsweredPages (pageListBeside field-header one-page-list 3 74) lent-pages left-pages (AcceptedPages 1)
+unfolding pageListBeside pages-answer pages-written flat pagesOf
+page-list-call = rw (field-header-read, one-page-list-read) (record { answers = refl; pages-are = refl })

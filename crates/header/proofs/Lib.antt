@@ -1,0 +1,14 @@
+pub mod Counting
+pub mod ChainLaws
+pub mod Following
+pub mod EndlessLaws
+pub mod Darkening
+pub mod DarkLaws
+pub mod MovesLaws
+pub mod RowLaws
+pub mod FieldLaws
+pub mod ListLaws
+pub mod PayloadLaws
+pub mod BoundLaws
+pub mod ReadyLaws
+pub mod ReadLaws

@@ -1,0 +1,32 @@
+-- Laws of little-endian numbers: by their halves, and where there is room for them.
+use mathlib.Core.Path.{_≡_, sym, _∙_}
+use mathlib.Core.Bool.{true, false}
+use mathlib.Core.List.{List}
+use Prim.Native.Nat.{ℕ, _+_, _*_, _<_, _≤_}
+use lib.ListN.{length}
+use lib.Dec.{leb}
+use borrow.Author.Tests.{leb-true, lt-leb, le-leb}
+use native.Mathlib.Nat.{add-assoc}
+use native.Mathlib.Omega.{arith}
+use Rattle.numbers.specs.Numbers.{little, littleIn, Little, Room}
+
+pub little-four : (s : List ℕ) (i : ℕ) → little 4 s i ≡ little 2 s i + 65536 * little 2 s (i + 2)
+unfolding little
+little-four s i = simp add-assoc (omega arith)
+
+pub little-eight : (s : List ℕ) (i : ℕ) → little 8 s i ≡ little 4 s i + 4294967296 * little 4 s (i + 4)
+unfolding little
+little-eight s i = simp add-assoc (omega arith)
+
+-- a number that was read, and one that is not there
+pub little-read : (k : ℕ) {s : List ℕ} {at r : ℕ} → leb (at + k) (length s) ≡ true → r ≡ little k s at → Little k s at r
+unfolding littleIn
+little-read k h e = record { is = rw h e; there = λ _. e }
+
+pub little-missing : (k : ℕ) {s : List ℕ} {at : ℕ} → leb (at + k) (length s) ≡ false → Little k s at 0
+unfolding littleIn
+little-missing k {s} {at} h = record { is = rw h; there = λ fits. absurd (omega (arith, leb-true 1 0 (sym h ∙ le-leb (at + k) (length s) fits))) }
+
+pub false-room : (s : List ℕ) (at len : ℕ) → length s < at + len → Room s at len false
+false-room s at len h =
+    record { is = sym (lt-leb (at + len) (length s) h); fits = λ t. omega (arith, leb-true 1 0 t) }

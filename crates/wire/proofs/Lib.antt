@@ -1,0 +1,5 @@
+pub mod Laws
+pub mod SizeWord
+pub mod Loops
+pub mod Cut
+pub mod FeatureLaws
