@@ -53,5 +53,5 @@ written words c m old (refusal k n) = old
 -- all that a call leaves, for a footer read beside its header and two lent tables
 pub record Answered (x : Beside Footer) (c₀ c m₀ m : List ℕ) (r : FooterAnswer) : Type 0 where
   pub answers : r ≡ answer (length c₀) (length m₀) x
-  pub clusters-are : c ≡ written clusterTable (length c₀) (length m₀) c₀ x
-  pub metadata-are : m ≡ written metadataTable (length c₀) (length m₀) m₀ x
+  pub clustersAre : c ≡ written clusterTable (length c₀) (length m₀) c₀ x
+  pub metadataAre : m ≡ written metadataTable (length c₀) (length m₀) m₀ x

@@ -20,11 +20,11 @@ use Rattle.header.specs.declared.FieldHead.{FieldHead}
 use Rattle.header.specs.declared.ColumnRow.{ColumnRow}
 use Rattle.header.specs.declared.AliasRow.{AliasRow}
 use Rattle.header.specs.declared.HeaderTables.{HeaderTables}
-use Rattle.tree.specs.Shape.{chars, Shape, Framed, All, Valid-items, record-shape}
-use Rattle.tree.specs.HeaderTree.{FieldContent, HeaderContent, PayloadContent, head-shape, field-shape, column-shape, alias-shape, flags-in, parents-in, field-content, header-content, lists-shape, payload-shape, header-carrier, HeaderTree, render-header, tables-of, RightHeader}
+use Rattle.tree.specs.Shape.{chars, Shape, Framed, All, ValidItems, recordShape}
+use Rattle.tree.specs.HeaderTree.{FieldContent, HeaderContent, PayloadContent, headShape, fieldShape, columnShape, aliasShape, flagsIn, parentsIn, fieldContent, headerContent, listsShape, payloadShape, headerCarrier, HeaderTree, renderHeader, tablesOf, RightHeader}
 use Rattle.tree.proofs.Simple.{both-true}
 use Rattle.tree.proofs.HeaderLaws.{header-complete, tables-known, parents-same}
-use Rattle.forward.specs.SameTables.{field-says, field-row}
+use Rattle.forward.specs.SameTables.{fieldSays, fieldRow}
 use Rattle.forward.specs.HeaderAppend.{appended, SelfParented, Appendix, HeaderAppend}
 use Rattle.forward.proofs.Calls.{answer-of, accepted-call, roomy-call, mark, fields-say}
 use Rattle.forward.proofs.HeaderForward.{the-header}
@@ -55,46 +55,46 @@ all-map P f (x ∷ xs) a = (a .0, all-map P f xs (a .1))
 
 -- items whose shape does not hang on those before are valid when each is
 
-items-all : {T C : Type 0} (S : Shape T C) (done cs : List C) → Valid-items (λ _. S) done cs → All (S .Valid) cs
+items-all : {T C : Type 0} (S : Shape T C) (done cs : List C) → ValidItems (λ _. S) done cs → All (S .Valid) cs
 items-all S done [] v = tt
 items-all S done (c ∷ cs) v = (v .0, items-all S (done ++ (c ∷ [])) cs (v .1))
 
-all-items : {T C : Type 0} (S : Shape T C) (done cs : List C) → All (S .Valid) cs → Valid-items (λ _. S) done cs
+all-items : {T C : Type 0} (S : Shape T C) (done cs : List C) → All (S .Valid) cs → ValidItems (λ _. S) done cs
 all-items S done [] v = tt
 all-items S done (c ∷ cs) v = (v .0, all-items S (done ++ (c ∷ [])) cs (v .1))
 
 -- rows stay valid under greater counts
 
-head-valid : (n m : ℕ) → n ≤ m → (c : FieldHead) → head-shape n .Valid c → head-shape m .Valid c
-unfolding head-shape
+head-valid : (n m : ℕ) → n ≤ m → (c : FieldHead) → headShape n .Valid c → headShape m .Valid c
+unfolding headShape
 head-valid n m le c v =
     let less : c .parent .0 < n = ltb-true (c .parent .0) n (judged (ltb (c .parent .0) n) 13 (v .1 .1 .0 .1)) in
     (v .0, (v .1 .0, ((v .1 .1 .0 .0, passed (ltb (c .parent .0) m) 14 (lt-ltb (c .parent .0) m (omega arith))), v .1 .1 .1)))
 
-field-valid : (n m : ℕ) → n ≤ m → (c : FieldContent) → field-shape n .Valid c → field-shape m .Valid c
-unfolding field-shape
+field-valid : (n m : ℕ) → n ≤ m → (c : FieldContent) → fieldShape n .Valid c → fieldShape m .Valid c
+unfolding fieldShape
 field-valid n m le c v = (head-valid n m le (c .head) (v .0), v .1)
 
-head-parent : (n : ℕ) (c : FieldHead) → head-shape n .Valid c → c .parent .0 < n
-unfolding head-shape
+head-parent : (n : ℕ) (c : FieldHead) → headShape n .Valid c → c .parent .0 < n
+unfolding headShape
 head-parent n c v = ltb-true (c .parent .0) n (judged (ltb (c .parent .0) n) 13 (v .1 .1 .0 .1))
 
-field-parent : (n : ℕ) (c : FieldContent) → field-shape n .Valid c → c .head .parent .0 < n
-unfolding field-shape
+field-parent : (n : ℕ) (c : FieldContent) → fieldShape n .Valid c → c .head .parent .0 < n
+unfolding fieldShape
 field-parent n c v = head-parent n (c .head) (v .0)
 
-column-field : (n : ℕ) (c : ColumnRow) → column-shape n .Valid c → c .field .0 < n
-unfolding column-shape
+column-field : (n : ℕ) (c : ColumnRow) → columnShape n .Valid c → c .field .0 < n
+unfolding columnShape
 column-field n c v = ltb-true (c .field .0) n (judged (ltb (c .field .0) n) 13 (v .1 .1 .0 .1))
 
-column-valid : (n m : ℕ) → n ≤ m → (c : ColumnRow) → column-shape n .Valid c → column-shape m .Valid c
-unfolding column-shape
+column-valid : (n m : ℕ) → n ≤ m → (c : ColumnRow) → columnShape n .Valid c → columnShape m .Valid c
+unfolding columnShape
 column-valid n m le c v =
     let less : c .field .0 < n = ltb-true (c .field .0) n (judged (ltb (c .field .0) n) 13 (v .1 .1 .0 .1)) in
     (v .0, (v .1 .0, ((v .1 .1 .0 .0, passed (ltb (c .field .0) m) 14 (lt-ltb (c .field .0) m (omega arith))), v .1 .1 .1)))
 
-alias-valid : (flags new : List ℕ) (n m : ℕ) → n ≤ m → (c : AliasRow) → alias-shape flags n .Valid c → alias-shape (flags ++ new) m .Valid c
-unfolding alias-shape
+alias-valid : (flags new : List ℕ) (n m : ℕ) → n ≤ m → (c : AliasRow) → aliasShape flags n .Valid c → aliasShape (flags ++ new) m .Valid c
+unfolding aliasShape
 alias-valid flags new n m le c v =
     let f = c .field .0 in
     let less : c .column .0 < n = ltb-true (c .column .0) n (judged (ltb (c .column .0) n) 13 (v .0 .1)) in
@@ -118,10 +118,10 @@ with-rows c ns ks =
       };
     }
 
-appended-valid : (c : PayloadContent) (ns : List FieldContent) (ks : List ColumnRow) → payload-shape .Valid c
-    → All (field-shape (length (c .tables .fields) + length ns) .Valid) ns → All (column-shape (length (c .tables .fields) + length ns) .Valid) ks
-    → length (c .tables .fields) + length ns ≤ 512 → length (c .tables .columns) + length ks ≤ 1024 → payload-shape .Valid (with-rows c ns ks)
-unfolding payload-shape lists-shape
+appended-valid : (c : PayloadContent) (ns : List FieldContent) (ks : List ColumnRow) → payloadShape .Valid c
+    → All (fieldShape (length (c .tables .fields) + length ns) .Valid) ns → All (columnShape (length (c .tables .fields) + length ns) .Valid) ks
+    → length (c .tables .fields) + length ns ≤ 512 → length (c .tables .columns) + length ks ≤ 1024 → payloadShape .Valid (with-rows c ns ks)
+unfolding payloadShape listsShape
 appended-valid c ns ks v vn vk few few′ =
     let fs = c .tables .fields in
     let cs = c .tables .columns in
@@ -131,24 +131,24 @@ appended-valid c ns ks v vn vk few few′ =
     let m = length fs + length ns in
     let long : length (fs ++ ns) ≡ m = length-append fs ns in
     let long′ : length (cs ++ ks) ≡ length cs + length ks = length-append cs ks in
-    let flags : flags-in (fs ++ ns) ≡ flags-in fs ++ flags-in ns = map-append (λ (x : FieldContent). x .head .flags) fs ns in
-    let vf = items-all (record-shape (field-shape n)) [] fs (lists .0 .2) in
-    let vc = items-all (record-shape (column-shape n)) [] cs (lists .1 .0 .2) in
-    let va = items-all (record-shape (alias-shape (flags-in fs) (length cs))) [] as′ (lists .1 .1 .0 .2) in
-    let fields = all-items (record-shape (field-shape m)) [] (fs ++ ns) (all-append (field-shape m .Valid) fs ns (all-weaken (field-valid n m (omega arith)) fs vf) vn) in
-    let columns = all-items (record-shape (column-shape m)) [] (cs ++ ks) (all-append (column-shape m .Valid) cs ks (all-weaken (column-valid n m (omega arith)) cs vc) vk) in
-    let aliases = all-items (record-shape (alias-shape (flags-in fs ++ flags-in ns) (length (cs ++ ks)))) [] as′ (all-weaken (alias-valid (flags-in fs) (flags-in ns) (length cs) (length (cs ++ ks)) (omega arith)) as′ va) in
+    let flags : flagsIn (fs ++ ns) ≡ flagsIn fs ++ flagsIn ns = map-append (λ (x : FieldContent). x .head .flags) fs ns in
+    let vf = items-all (recordShape (fieldShape n)) [] fs (lists .0 .2) in
+    let vc = items-all (recordShape (columnShape n)) [] cs (lists .1 .0 .2) in
+    let va = items-all (recordShape (aliasShape (flagsIn fs) (length cs))) [] as′ (lists .1 .1 .0 .2) in
+    let fields = all-items (recordShape (fieldShape m)) [] (fs ++ ns) (all-append (fieldShape m .Valid) fs ns (all-weaken (field-valid n m (omega arith)) fs vf) vn) in
+    let columns = all-items (recordShape (columnShape m)) [] (cs ++ ks) (all-append (columnShape m .Valid) cs ks (all-weaken (column-valid n m (omega arith)) cs vc) vk) in
+    let aliases = all-items (recordShape (aliasShape (flagsIn fs ++ flagsIn ns) (length (cs ++ ks)))) [] as′ (all-weaken (alias-valid (flagsIn fs) (flagsIn ns) (length cs) (length (cs ++ ks)) (omega arith)) as′ va) in
     (v .0, ((rw long (omega arith, passed (leb m 512) 10 (le-leb m 512 few), fields), (rw (long, long′) (omega arith, passed (leb (length cs + length ks) 1024) 10 (le-leb (length cs + length ks) 1024 few′), columns), (rw flags (lists .1 .1 .0 .0, lists .1 .1 .0 .1, aliases), tt))), tt))
 
 -- parents
 
-parent-at : (n : ℕ) (fs : List FieldContent) → All (λ (c : FieldContent). c .head .parent .0 < n) fs → (f : ℕ) → f < length fs → getD (parents-in fs) f 0 < n
+parent-at : (n : ℕ) (fs : List FieldContent) → All (λ (c : FieldContent). c .head .parent .0 < n) fs → (f : ℕ) → f < length fs → getD (parentsIn fs) f 0 < n
 parent-at n [] a f h = absurd (omega arith)
 parent-at n (c ∷ fs) a zero h = a .0
 parent-at n (c ∷ fs) a (suc f) h = parent-at n fs (a .1) f (omega arith)
 
 own-parents : (n : ℕ) (fields : List (Framed FieldContent)) → SelfParented n fields → (i : ℕ) → i < length fields
-    → getD (parents-in (map (λ (f : Framed FieldContent). f .inside) fields)) i 0 ≡ n + i
+    → getD (parentsIn (map (λ (f : Framed FieldContent). f .inside) fields)) i 0 ≡ n + i
 own-parents n [] s i h = absurd (omega arith)
 own-parents n (f ∷ fs) s zero h = s .0 ∙ sym (add-zero n)
 own-parents n (f ∷ fs) s (suc i) h = own-parents (suc n) fs (s .1) i (omega arith) ∙ omega arith
@@ -176,7 +176,7 @@ inner f = f .inside
 
 module _ (t : HeaderTree) (right : RightHeader t) (fields : List (Framed FieldContent)) (columns : List (Framed ColumnRow)) (a : Appendix t fields columns) where
   abbrev content : PayloadContent
-  content = header-carrier .content (t .inside)
+  content = headerCarrier .content (t .inside)
 
   abbrev fs : List FieldContent
   fs = map inner (t .inside .fields .inside)
@@ -190,7 +190,7 @@ module _ (t : HeaderTree) (right : RightHeader t) (fields : List (Framed FieldCo
   abbrev ks : List ColumnRow
   ks = map inner columns
 
-  new-content : header-carrier .content (appended t fields columns .inside) ≡ with-rows content ns ks
+  new-content : headerCarrier .content (appended t fields columns .inside) ≡ with-rows content ns ks
   new-content =
       λ i. record {
         words = content .words;
@@ -209,122 +209,122 @@ module _ (t : HeaderTree) (right : RightHeader t) (fields : List (Framed FieldCo
   counts′ : length cs + length ks ≡ length (t .inside .columns .inside) + length columns
   counts′ = rw (length-map (t .inside .columns .inside) inner, length-map columns inner) refl
 
-  valid-fields : All (field-shape (length fs + length ns) .Valid) ns
-  valid-fields = rw counts (all-map (field-shape (length (t .inside .fields .inside) + length fields) .Valid) inner fields (a .valid-fields))
+  validFields : All (fieldShape (length fs + length ns) .Valid) ns
+  validFields = rw counts (all-map (fieldShape (length (t .inside .fields .inside) + length fields) .Valid) inner fields (a .validFields))
 
-  valid-columns : All (column-shape (length fs + length ns) .Valid) ks
-  valid-columns = rw counts (all-map (column-shape (length (t .inside .fields .inside) + length fields) .Valid) inner columns (a .valid-columns))
+  validColumns : All (columnShape (length fs + length ns) .Valid) ks
+  validColumns = rw counts (all-map (columnShape (length (t .inside .fields .inside) + length fields) .Valid) inner columns (a .validColumns))
 
-  new-valid : payload-shape .Valid (with-rows content ns ks)
-  new-valid = appended-valid content ns ks (right .envelope .valid) valid-fields valid-columns (omega (arith, a .few-fields, counts)) (omega (arith, a .few-columns, counts′))
+  new-valid : payloadShape .Valid (with-rows content ns ks)
+  new-valid = appended-valid content ns ks (right .envelope .valid) validFields validColumns (omega (arith, a .fewFields, counts)) (omega (arith, a .fewColumns, counts′))
 
-  old-valid : All (field-shape (length fs) .Valid) fs
-  unfolding payload-shape lists-shape
-  old-valid = items-all (record-shape (field-shape (length fs))) [] fs (right .envelope .valid .1 .0 .0 .2)
+  old-valid : All (fieldShape (length fs) .Valid) fs
+  unfolding payloadShape listsShape
+  old-valid = items-all (recordShape (fieldShape (length fs))) [] fs (right .envelope .valid .1 .0 .0 .2)
 
-  old-valid′ : All (column-shape (length fs) .Valid) cs
-  unfolding payload-shape lists-shape
-  old-valid′ = items-all (record-shape (column-shape (length fs))) [] cs (right .envelope .valid .1 .0 .1 .0 .2)
+  old-valid′ : All (columnShape (length fs) .Valid) cs
+  unfolding payloadShape listsShape
+  old-valid′ = items-all (recordShape (columnShape (length fs))) [] cs (right .envelope .valid .1 .0 .1 .0 .2)
 
-  long : length (parents-in fs) ≡ length fs
+  long : length (parentsIn fs) ≡ length fs
   long = length-map fs (λ (c : FieldContent). c .head .parent .0)
 
-  closed : Closed-under (parents-in fs)
+  closed : Closed-under (parentsIn fs)
   closed f h = rw long (parent-at (length fs) fs (all-weaken (field-parent (length fs)) fs old-valid) f (omega (arith, long)))
 
-  tops : Tops (parents-in fs ++ parents-in ns) (length (parents-in fs))
+  tops : Tops (parentsIn fs ++ parentsIn ns) (length (parentsIn fs))
   tops f l h =
-      let k = f - length (parents-in fs) in
-      let f-is : f ≡ length (parents-in fs) + k = omega arith in
-      let bound : k < length fields = omega (arith, length-append (parents-in fs) (parents-in ns), length-map ns (λ (c : FieldContent). c .head .parent .0), length-map fields inner) in
-      let start : length (parents-in fs) ≡ length (t .inside .fields .inside) = long ∙ length-map (t .inside .fields .inside) inner in
-      ap (λ (x : ℕ). getD (parents-in fs ++ parents-in ns) x 0) f-is ∙ getD-append-add (parents-in fs) (parents-in ns) k 0 ∙ own-parents (length (t .inside .fields .inside)) fields (a .self-parented) k bound ∙ omega arith
+      let k = f - length (parentsIn fs) in
+      let f-is : f ≡ length (parentsIn fs) + k = omega arith in
+      let bound : k < length fields = omega (arith, length-append (parentsIn fs) (parentsIn ns), length-map ns (λ (c : FieldContent). c .head .parent .0), length-map fields inner) in
+      let start : length (parentsIn fs) ≡ length (t .inside .fields .inside) = long ∙ length-map (t .inside .fields .inside) inner in
+      ap (λ (x : ℕ). getD (parentsIn fs ++ parentsIn ns) x 0) f-is ∙ getD-append-add (parentsIn fs) (parentsIn ns) k 0 ∙ own-parents (length (t .inside .fields .inside)) fields (a .selfParented) k bound ∙ omega arith
 
-  parents-appended : parents-in (fs ++ ns) ≡ parents-in fs ++ parents-in ns
+  parents-appended : parentsIn (fs ++ ns) ≡ parentsIn fs ++ parentsIn ns
   parents-appended = map-append (λ (c : FieldContent). c .head .parent .0) fs ns
 
-  reach : allReach (parents-in fs) (length (parents-in fs)) ≡ true
+  reach : allReach (parentsIn fs) (length (parentsIn fs)) ≡ true
   reach = rw long (right .chains)
 
-  new-chains : allReach (parents-in (fs ++ ns)) (length (fs ++ ns)) ≡ true
+  new-chains : allReach (parentsIn (fs ++ ns)) (length (fs ++ ns)) ≡ true
   new-chains =
-      let size : length (fs ++ ns) ≡ length (parents-in fs ++ parents-in ns) = omega (arith, length-append fs ns, length-append (parents-in fs) (parents-in ns), long, length-map ns (λ (c : FieldContent). c .head .parent .0)) in
-      rw (parents-appended, size) (reach-appended (parents-in fs) (parents-in ns) closed reach tops)
+      let size : length (fs ++ ns) ≡ length (parentsIn fs ++ parentsIn ns) = omega (arith, length-append fs ns, length-append (parentsIn fs) (parentsIn ns), long, length-map ns (λ (c : FieldContent). c .head .parent .0)) in
+      rw (parents-appended, size) (reach-appended (parentsIn fs) (parentsIn ns) closed reach tops)
 
   pub appended-right : RightHeader (appended t fields columns)
   appended-right =
       let r = right .envelope in
       record {
         envelope = record {
-          version-fits = r .version-fits;
+          versionFits = r .versionFits;
           least = r .least;
           order = r .order;
           read = r .read;
-          valid = subst (payload-shape .Valid) (sym new-content) new-valid;
+          valid = subst (payloadShape .Valid) (sym new-content) new-valid;
           plain = λ e.
               let (p, spare) = r .plain e in
               let l = p .1 .0 in
-              let plain-fields = all-append (λ (f : Framed FieldContent). Unit {0} × (f .spare ≡ [])) (t .inside .fields .inside) fields (l .0 .0) (all-weaken (λ f s. (tt, s)) fields (a .plain-fields e)) in
-              let plain-columns = all-append (λ (f : Framed ColumnRow). Unit {0} × (f .spare ≡ [])) (t .inside .columns .inside) columns (l .1 .0 .0) (all-weaken (λ f s. (tt, s)) columns (a .plain-columns e)) in
-              ((p .0, (((plain-fields, l .0 .1), ((plain-columns, l .1 .0 .1), l .1 .1)), p .1 .1)), spare);
+              let plainFields = all-append (λ (f : Framed FieldContent). Unit {0} × (f .spare ≡ [])) (t .inside .fields .inside) fields (l .0 .0) (all-weaken (λ f s. (tt, s)) fields (a .plainFields e)) in
+              let plainColumns = all-append (λ (f : Framed ColumnRow). Unit {0} × (f .spare ≡ [])) (t .inside .columns .inside) columns (l .1 .0 .0) (all-weaken (λ f s. (tt, s)) columns (a .plainColumns e)) in
+              ((p .0, (((plainFields, l .0 .1), ((plainColumns, l .1 .0 .1), l .1 .1)), p .1 .1)), spare);
         };
         small = a .small;
-        chains = subst (λ (c : PayloadContent). allReach (parents-in (c .tables .fields)) (length (c .tables .fields)) ≡ true) (sym new-content) new-chains;
+        chains = subst (λ (c : PayloadContent). allReach (parentsIn (c .tables .fields)) (length (c .tables .fields)) ≡ true) (sym new-content) new-chains;
       }
 
-  marks : (i : ℕ) → i < length fs → dark (parents-in (fs ++ ns)) (cs ++ ks) i ≡ dark (parents-in fs) cs i
+  marks : (i : ℕ) → i < length fs → dark (parentsIn (fs ++ ns)) (cs ++ ks) i ≡ dark (parentsIn fs) cs i
   marks i h =
-      let size : length fs + length ns ≡ length (parents-in fs ++ parents-in ns) = omega (arith, length-append (parents-in fs) (parents-in ns), long, length-map ns (λ (c : FieldContent). c .head .parent .0)) in
-      let old : All (λ (c : ColumnRow). c .field .0 < length (parents-in fs)) cs = rw long (all-weaken (column-field (length fs)) cs old-valid′) in
-      let new : All (λ (c : ColumnRow). length (parents-in fs) ≤ c .field .0) ks = rw (long, length-map (t .inside .fields .inside) inner) (all-map (λ (c : ColumnRow). length (t .inside .fields .inside) ≤ c .field .0) inner columns (a .on-them)) in
-      let new′ : All (λ (c : ColumnRow). c .field .0 < length (parents-in fs ++ parents-in ns)) ks = rw (← size) (all-weaken (column-field (length fs + length ns)) ks valid-columns) in
-      rw parents-appended (dark-appended (parents-in fs) (parents-in ns) closed reach tops i (omega (arith, long)) cs ks old new new′)
+      let size : length fs + length ns ≡ length (parentsIn fs ++ parentsIn ns) = omega (arith, length-append (parentsIn fs) (parentsIn ns), long, length-map ns (λ (c : FieldContent). c .head .parent .0)) in
+      let old : All (λ (c : ColumnRow). c .field .0 < length (parentsIn fs)) cs = rw long (all-weaken (column-field (length fs)) cs old-valid′) in
+      let new : All (λ (c : ColumnRow). length (parentsIn fs) ≤ c .field .0) ks = rw (long, length-map (t .inside .fields .inside) inner) (all-map (λ (c : ColumnRow). length (t .inside .fields .inside) ≤ c .field .0) inner columns (a .onThem)) in
+      let new′ : All (λ (c : ColumnRow). c .field .0 < length (parentsIn fs ++ parentsIn ns)) ks = rw (← size) (all-weaken (column-field (length fs + length ns)) ks validColumns) in
+      rw parents-appended (dark-appended (parentsIn fs) (parentsIn ns) closed reach tops i (omega (arith, long)) cs ks old new new′)
 
 -- the tables of a header with fields and columns appended
 
-mark-content : (e : List ℕ) (h : Header) (i : ℕ) → mark (h .lists) i ≡ dark (parents-in (header-content e h .fields)) (header-content e h .columns) i
-unfolding header-content
+mark-content : (e : List ℕ) (h : Header) (i : ℕ) → mark (h .lists) i ≡ dark (parentsIn (headerContent e h .fields)) (headerContent e h .columns) i
+unfolding headerContent
 mark-content e h i = ap (λ (l : List ℕ). dark l (h .lists .columns) i) (parents-same e (h .lists .fields))
 
-count-content : (e : List ℕ) (h : Header) → length (h .lists .fields) ≡ length (header-content e h .fields)
-unfolding header-content
-count-content e h = sym (length-map (h .lists .fields) (field-content e))
+count-content : (e : List ℕ) (h : Header) → length (h .lists .fields) ≡ length (headerContent e h .fields)
+unfolding headerContent
+count-content e h = sym (length-map (h .lists .fields) (fieldContent e))
 
 -- e′ is accepted, with the tables of h in e and these rows after its own
 pub record ReadMore (e : List ℕ) (h : Header) (e′ : List ℕ) (fields : List (Framed FieldContent)) (columns : List (Framed ColumnRow)) : Type 0 where
   pub header : Header
   pub place : ℕ
   pub reads : headerOf e′ ≡ found header place
-  pub name : header-content e′ header .name ≡ header-content e h .name
-  pub description : header-content e′ header .description ≡ header-content e h .description
-  pub fields-are : header-content e′ header .fields ≡ header-content e h .fields ++ map inner fields
-  pub columns-are : header-content e′ header .columns ≡ header-content e h .columns ++ map inner columns
-  pub aliases-are : header-content e′ header .aliases ≡ header-content e h .aliases
+  pub name : headerContent e′ header .name ≡ headerContent e h .name
+  pub description : headerContent e′ header .description ≡ headerContent e h .description
+  pub fieldsAre : headerContent e′ header .fields ≡ headerContent e h .fields ++ map inner fields
+  pub columnsAre : headerContent e′ header .columns ≡ headerContent e h .columns ++ map inner columns
+  pub aliasesAre : headerContent e′ header .aliases ≡ headerContent e h .aliases
   pub marks-are : (i : ℕ) → i < length (h .lists .fields) → mark (header .lists) i ≡ mark (h .lists) i
 
-pub read-more : (e : List ℕ) (h : Header) (q : ℕ) → headerOf e ≡ found h q → (t : HeaderTree) → RightHeader t → render-header t ≡ e
+pub read-more : (e : List ℕ) (h : Header) (q : ℕ) → headerOf e ≡ found h q → (t : HeaderTree) → RightHeader t → renderHeader t ≡ e
     → (fields : List (Framed FieldContent)) (columns : List (Framed ColumnRow)) → Appendix t fields columns
-    → ReadMore e h (render-header (appended t fields columns)) fields columns
+    → ReadMore e h (renderHeader (appended t fields columns)) fields columns
 read-more e h q reads t right is fields columns a =
-    let means : header-content e h ≡ tables-of t = tables-known t right e h q is reads in
+    let means : headerContent e h ≡ tablesOf t = tables-known t right e h q is reads in
     let t′ = appended t fields columns in
-    let e′ = render-header t′ in
+    let e′ = renderHeader t′ in
     let new = header-complete t′ (appended-right t right fields columns a) in
-    let means′ : header-content e′ (new .header) ≡ with-rows (header-carrier .content (t .inside)) (map inner fields) (map inner columns) .tables = new .means ∙ ap (λ (c : PayloadContent). c .tables) (new-content t right fields columns a) in
-    let count : length (h .lists .fields) ≡ length (tables-of t .fields) = count-content e h ∙ ap (λ (c : HeaderContent). length (c .fields)) means in
+    let means′ : headerContent e′ (new .header) ≡ with-rows (headerCarrier .content (t .inside)) (map inner fields) (map inner columns) .tables = new .means ∙ ap (λ (c : PayloadContent). c .tables) (new-content t right fields columns a) in
+    let count : length (h .lists .fields) ≡ length (tablesOf t .fields) = count-content e h ∙ ap (λ (c : HeaderContent). length (c .fields)) means in
     record {
       header = new .header;
       place = _;
       reads = new .reads;
       name = ap (λ (c : HeaderContent). c .name) means′ ∙ sym (ap (λ (c : HeaderContent). c .name) means);
       description = ap (λ (c : HeaderContent). c .description) means′ ∙ sym (ap (λ (c : HeaderContent). c .description) means);
-      fields-are = ap (λ (c : HeaderContent). c .fields) means′ ∙ sym (ap (λ (c : HeaderContent). c .fields ++ map inner fields) means);
-      columns-are = ap (λ (c : HeaderContent). c .columns) means′ ∙ sym (ap (λ (c : HeaderContent). c .columns ++ map inner columns) means);
-      aliases-are = ap (λ (c : HeaderContent). c .aliases) means′ ∙ sym (ap (λ (c : HeaderContent). c .aliases) means);
+      fieldsAre = ap (λ (c : HeaderContent). c .fields) means′ ∙ sym (ap (λ (c : HeaderContent). c .fields ++ map inner fields) means);
+      columnsAre = ap (λ (c : HeaderContent). c .columns) means′ ∙ sym (ap (λ (c : HeaderContent). c .columns ++ map inner columns) means);
+      aliasesAre = ap (λ (c : HeaderContent). c .aliases) means′ ∙ sym (ap (λ (c : HeaderContent). c .aliases) means);
       marks-are = λ i l.
-          mark-content e′ (new .header) i ∙ ap (λ (c : HeaderContent). dark (parents-in (c .fields)) (c .columns) i) means′
+          mark-content e′ (new .header) i ∙ ap (λ (c : HeaderContent). dark (parentsIn (c .fields)) (c .columns) i) means′
           ∙ marks t right fields columns a i (omega (arith, count))
-          ∙ sym (ap (λ (c : HeaderContent). dark (parents-in (c .fields)) (c .columns) i) means) ∙ sym (mark-content e h i);
+          ∙ sym (ap (λ (c : HeaderContent). dark (parentsIn (c .fields)) (c .columns) i) means) ∙ sym (mark-content e h i);
     }
 
 -- words of rows
@@ -361,7 +361,7 @@ more-room f c a h h′ x y same room =
 
 -- demand 3, second half
 pub header-append : HeaderAppend
-unfolding header-content
+unfolding headerContent
 header-append e f₀ f c₀ c a₀ a x bytes read =
     let call = accepted-call e f₀ f c₀ c a₀ a x read in
     let h = call .header in
@@ -370,32 +370,32 @@ header-append e f₀ f c₀ c a₀ a x bytes read =
     record {
       header = the;
       append = λ fields columns ap′ roomy roomy′ f′ c′ a′ r read′.
-          let e′ = render-header (appended (the .tree) fields columns) in
+          let e′ = renderHeader (appended (the .tree) fields columns) in
           let more = read-more e h (call .place) (call .reads) (the .tree) (the .right) (the .bytes) fields columns ap′ in
           let h′ = more .header in
           let l = h .lists in
           let l′ = h′ .lists in
-          let n : length (l′ .fields) ≡ length (l .fields) + length fields = sym (length-map (l′ .fields) (field-content e′)) ∙ ap length (more .fields-are) ∙ length-append (map (field-content e) (l .fields)) (map inner fields) ∙ (λ i. length-map (l .fields) (field-content e) i + length-map fields inner i) in
-          let k : length (l′ .columns) ≡ length (l .columns) + length columns = ap length (more .columns-are) ∙ length-append (l .columns) (map inner columns) ∙ ap (λ (j : ℕ). length (l .columns) + j) (length-map columns inner) in
+          let n : length (l′ .fields) ≡ length (l .fields) + length fields = sym (length-map (l′ .fields) (fieldContent e′)) ∙ ap length (more .fieldsAre) ∙ length-append (map (fieldContent e) (l .fields)) (map inner fields) ∙ (λ i. length-map (l .fields) (fieldContent e) i + length-map fields inner i) in
+          let k : length (l′ .columns) ≡ length (l .columns) + length columns = ap length (more .columnsAre) ∙ length-append (l .columns) (map inner columns) ∙ ap (λ (j : ℕ). length (l .columns) + j) (length-map columns inner) in
           let fields-x : x .fields ≡ length (l .fields) = ap (λ (y : HeaderTables). y .fields) answers in
           let columns-x : x .columns ≡ length (l .columns) = ap (λ (y : HeaderTables). y .columns) answers in
-          let room = more-room (length f₀) (length c₀) (length a₀) h h′ (omega (arith, roomy, fields-x)) (omega (arith, roomy′, columns-x)) (ap length (more .aliases-are)) (call .room) in
+          let room = more-room (length f₀) (length c₀) (length a₀) h h′ (omega (arith, roomy, fields-x)) (omega (arith, roomy′, columns-x)) (ap length (more .aliasesAre)) (call .room) in
           let (accepts, f-is, c-is, a-is) = roomy-call e′ f₀ f′ c₀ c′ a₀ a′ r h′ (more .place) (more .reads) room read′ in
           record {
             answer = answer-of h′;
             accepts = accepts;
-            more-fields = n ∙ ap (λ (j : ℕ). j + length fields) (sym fields-x);
-            more-columns = k ∙ ap (λ (j : ℕ). j + length columns) (sym columns-x);
-            same-aliases = ap length (more .aliases-are) ∙ sym (ap (λ (y : HeaderTables). y .aliases) answers);
+            moreFields = n ∙ ap (λ (j : ℕ). j + length fields) (sym fields-x);
+            moreColumns = k ∙ ap (λ (j : ℕ). j + length columns) (sym columns-x);
+            sameAliases = ap length (more .aliasesAre) ∙ sym (ap (λ (y : HeaderTables). y .aliases) answers);
             name = more .name ∙ sym (ap (λ (y : HeaderTables). chars e (y .texts .name)) answers);
             description = more .description ∙ sym (ap (λ (y : HeaderTables). chars e (y .texts .description)) answers);
-            field-rows = λ i less.
-                ap (λ (w : List ℕ). field-says e′ (field-row w i)) f-is ∙ fields-say e e′ f₀ f₀ l l′ (map inner fields) (more .fields-are) (more .marks-are) i (omega (arith, fields-x))
-                ∙ sym (ap (λ (w : List ℕ). field-says e (field-row w i)) (call .fields));
-            column-rows =
+            fieldRows = λ i less.
+                ap (λ (w : List ℕ). fieldSays e′ (fieldRow w i)) f-is ∙ fields-say e e′ f₀ f₀ l l′ (map inner fields) (more .fieldsAre) (more .marks-are) i (omega (arith, fields-x))
+                ∙ sym (ap (λ (w : List ℕ). fieldSays e (fieldRow w i)) (call .fields));
+            columnRows =
                 ap (take (4 * x .columns)) c-is ∙ ap (λ (j : ℕ). take (4 * j) (over (flat columnWords (l′ .columns)) c₀)) columns-x
-                ∙ ap (λ (cs : List ColumnRow). take (4 * length (l .columns)) (over (flat columnWords cs) c₀)) (more .columns-are) ∙ first-columns (l .columns) (map inner columns) c₀
+                ∙ ap (λ (cs : List ColumnRow). take (4 * length (l .columns)) (over (flat columnWords cs) c₀)) (more .columnsAre) ∙ first-columns (l .columns) (map inner columns) c₀
                 ∙ ap (λ (j : ℕ). take (4 * j) (over (flat columnWords (l .columns)) c₀)) (sym columns-x) ∙ ap (take (4 * x .columns)) (sym (call .columns));
-            alias-rows = a-is ∙ ap (λ (as′ : List AliasRow). over (flat aliasWords as′) a₀) (more .aliases-are) ∙ sym (call .aliases);
+            aliasRows = a-is ∙ ap (λ (as′ : List AliasRow). over (flat aliasWords as′) a₀) (more .aliasesAre) ∙ sym (call .aliases);
           };
     }

@@ -15,9 +15,9 @@ use Rattle.header.specs.declared.FieldRow.{FieldRow}
 use Rattle.header.specs.declared.HeaderTables.{HeaderTables}
 use Rattle.header.specs.declared.HeaderAnswer.{HeaderAnswer}
 use Rattle.header.specs.declared.HeaderAnswer.the-variants.{Accepted, Refused}
-use Rattle.tree.specs.HeaderTree.{FieldContent, HeaderContent, field-content, header-content, parents-in}
+use Rattle.tree.specs.HeaderTree.{FieldContent, HeaderContent, fieldContent, headerContent, parentsIn}
 use Rattle.tree.proofs.HeaderLaws.{parents-same}
-use Rattle.forward.specs.SameTables.{FieldSays, field-says, field-row, SameTables}
+use Rattle.forward.specs.SameTables.{FieldSays, fieldSays, fieldRow, SameTables}
 
 -- the answer for a header that has room
 abbrev pub answer-of : Header → HeaderTables
@@ -40,7 +40,7 @@ not-accepted e = let z : _≡_ {A = ℕ} 0 1 = cc in absurd (omega arith)
 
 pub accepted-call : (e f₀ f c₀ c a₀ a : List ℕ) (x : HeaderTables) → Answered (headerOf e) f₀ f c₀ c a₀ a (Accepted x) → Called e f₀ f c₀ c a₀ a x
 unfolding answer written
-accepted-call e f₀ f c₀ c a₀ a x read = by (headerOf e) refl (read .answers) (read .fields-are) (read .columns-are) (read .aliases-are)
+accepted-call e f₀ f c₀ c a₀ a x read = by (headerOf e) refl (read .answers) (read .fieldsAre) (read .columnsAre) (read .aliasesAre)
   where
     with-room : (h : Header) (q : ℕ) → headerOf e ≡ found h q → (b : Bool) → roomFor (length f₀) (length c₀) (length a₀) (h .lists) ≡ b
         → Accepted x ≡ pick b (Accepted (answer-of h)) (Refused 20) → f ≡ pick b (over (fieldTable (h .lists)) f₀) f₀
@@ -73,9 +73,9 @@ roomy-call e f₀ f c₀ c a₀ a r h q reads room read =
     let C = length c₀ in
     let A = length a₀ in
     let r-is : r ≡ Accepted (answer-of h) = read .answers ∙ ap (answer F C A) reads ∙ rw room refl in
-    let f-is : f ≡ over (fieldTable (h .lists)) f₀ = read .fields-are ∙ ap (written fieldTable F C A f₀) reads ∙ rw room refl in
-    let c-is : c ≡ over (columnTable (h .lists)) c₀ = read .columns-are ∙ ap (written columnTable F C A c₀) reads ∙ rw room refl in
-    let a-is : a ≡ over (aliasTable (h .lists)) a₀ = read .aliases-are ∙ ap (written aliasTable F C A a₀) reads ∙ rw room refl in
+    let f-is : f ≡ over (fieldTable (h .lists)) f₀ = read .fieldsAre ∙ ap (written fieldTable F C A f₀) reads ∙ rw room refl in
+    let c-is : c ≡ over (columnTable (h .lists)) c₀ = read .columnsAre ∙ ap (written columnTable F C A c₀) reads ∙ rw room refl in
+    let a-is : a ≡ over (aliasTable (h .lists)) a₀ = read .aliasesAre ∙ ap (written aliasTable F C A a₀) reads ∙ rw room refl in
     (r-is, f-is, c-is, a-is)
 
 -- rows of fields
@@ -83,20 +83,20 @@ roomy-call e f₀ f c₀ c a₀ a r h q reads room read =
 abbrev says : ℕ → FieldContent → FieldSays
 says d c =
     record {
-      field-version = c .head .«field_version»;
-      type-version = c .head .«type_version»;
+      fieldVersion = c .head .«field_version»;
+      typeVersion = c .head .«type_version»;
       parent = c .head .parent .0;
       role = c .head .role;
       flags = c .head .flags;
       repetition = c .head .repetition;
       name = c .texts .name;
-      type-name = c .texts .type-name;
-      type-alias = c .texts .type-alias;
+      typeName = c .texts .typeName;
+      typeAlias = c .texts .typeAlias;
       description = c .texts .description;
       dark = d;
     }
 
-row-says : (e : List ℕ) (d : ℕ) (r : FieldRow) (rest : List ℕ) → field-says e (drop (15 * 0) (fieldWords d r ++ rest)) ≡ says d (field-content e r)
+row-says : (e : List ℕ) (d : ℕ) (r : FieldRow) (rest : List ℕ) → fieldSays e (drop (15 * 0) (fieldWords d r ++ rest)) ≡ says d (fieldContent e r)
 unfolding fieldWords
 row-says e d r rest = refl
 
@@ -111,77 +111,77 @@ rows-from d n rows = flatBy (λ i. fieldWords (d i)) n rows
 
 -- earlier rows of the same contents and marks say the same, whatever rows follow
 rows-say : (e e′ : List ℕ) (d d′ : ℕ → ℕ) (rest rest′ : List ℕ) (extra : List FieldContent) (rows rows′ : List FieldRow) (n k : ℕ)
-    → map (field-content e′) rows′ ≡ map (field-content e) rows ++ extra → ((i : ℕ) → i < n + length rows → d′ i ≡ d i) → k < length rows
-    → field-says e′ (drop (15 * k) (rows-from d′ n rows′ ++ rest′)) ≡ field-says e (drop (15 * k) (rows-from d n rows ++ rest))
+    → map (fieldContent e′) rows′ ≡ map (fieldContent e) rows ++ extra → ((i : ℕ) → i < n + length rows → d′ i ≡ d i) → k < length rows
+    → fieldSays e′ (drop (15 * k) (rows-from d′ n rows′ ++ rest′)) ≡ fieldSays e (drop (15 * k) (rows-from d n rows ++ rest))
 unfolding flatBy
 rows-say e e′ d d′ rest rest′ extra [] rows′ n k same marks less = absurd (omega arith)
 rows-say e e′ d d′ rest rest′ extra (r ∷ rs) [] n k same marks less = let z : _≡_ {A = ℕ} 0 1 = cc in absurd (omega arith)
 rows-say e e′ d d′ rest rest′ extra (r ∷ rs) (r′ ∷ rs′) n zero same marks less =
-    let first : field-content e′ r′ ≡ field-content e r = cc in
+    let first : fieldContent e′ r′ ≡ fieldContent e r = cc in
     let mark : d′ n ≡ d n = marks n (omega arith) in
     let w = fieldWords (d n) r in
     let w′ = fieldWords (d′ n) r′ in
     let x = rows-from d (suc n) rs in
     let x′ = rows-from d′ (suc n) rs′ in
-    ap (λ (l : List ℕ). field-says e′ (drop (15 * 0) l)) (append-assoc w′ x′ rest′) ∙ row-says e′ (d′ n) r′ (x′ ++ rest′)
+    ap (λ (l : List ℕ). fieldSays e′ (drop (15 * 0) l)) (append-assoc w′ x′ rest′) ∙ row-says e′ (d′ n) r′ (x′ ++ rest′)
     ∙ (λ i. says (mark i) (first i))
-    ∙ sym (ap (λ (l : List ℕ). field-says e (drop (15 * 0) l)) (append-assoc w x rest) ∙ row-says e (d n) r (x ++ rest))
+    ∙ sym (ap (λ (l : List ℕ). fieldSays e (drop (15 * 0) l)) (append-assoc w x rest) ∙ row-says e (d n) r (x ++ rest))
 rows-say e e′ d d′ rest rest′ extra (r ∷ rs) (r′ ∷ rs′) n (suc k) same marks less =
-    let later : map (field-content e′) rs′ ≡ map (field-content e) rs ++ extra = cc in
+    let later : map (fieldContent e′) rs′ ≡ map (fieldContent e) rs ++ extra = cc in
     let w = fieldWords (d n) r in
     let w′ = fieldWords (d′ n) r′ in
     let x = rows-from d (suc n) rs in
     let x′ = rows-from d′ (suc n) rs′ in
-    ap (λ (l : List ℕ). field-says e′ (drop (15 * suc k) l)) (append-assoc w′ x′ rest′) ∙ ap (field-says e′) (row-past (d′ n) k r′ (x′ ++ rest′))
+    ap (λ (l : List ℕ). fieldSays e′ (drop (15 * suc k) l)) (append-assoc w′ x′ rest′) ∙ ap (fieldSays e′) (row-past (d′ n) k r′ (x′ ++ rest′))
     ∙ rows-say e e′ d d′ rest rest′ extra rs rs′ (suc n) k later (λ i l. marks i (omega arith)) (omega arith)
-    ∙ sym (ap (λ (l : List ℕ). field-says e (drop (15 * suc k) l)) (append-assoc w x rest) ∙ ap (field-says e) (row-past (d n) k r (x ++ rest)))
+    ∙ sym (ap (λ (l : List ℕ). fieldSays e (drop (15 * suc k) l)) (append-assoc w x rest) ∙ ap (fieldSays e) (row-past (d n) k r (x ++ rest)))
 
 -- the dark mark of field i
 abbrev pub mark : Lists → ℕ → Bool
 mark l i = dark (parentsOf (l .fields)) (l .columns) i
 
 -- the rows of l in e are the first of l′ in e′
-pub fields-say : (e e′ f₀ f₀′ : List ℕ) (l l′ : Lists) (extra : List FieldContent) → map (field-content e′) (l′ .fields) ≡ map (field-content e) (l .fields) ++ extra
+pub fields-say : (e e′ f₀ f₀′ : List ℕ) (l l′ : Lists) (extra : List FieldContent) → map (fieldContent e′) (l′ .fields) ≡ map (fieldContent e) (l .fields) ++ extra
     → ((i : ℕ) → i < length (l .fields) → mark l′ i ≡ mark l i) → (i : ℕ) → i < length (l .fields)
-    → field-says e′ (field-row (over (fieldTable l′) f₀′) i) ≡ field-says e (field-row (over (fieldTable l) f₀) i)
+    → fieldSays e′ (fieldRow (over (fieldTable l′) f₀′) i) ≡ fieldSays e (fieldRow (over (fieldTable l) f₀) i)
 fields-say e e′ f₀ f₀′ l l′ extra same marks i less =
     rows-say e e′ (λ j. bit (mark l j)) (λ j. bit (mark l′ j)) (drop (length (fieldTable l)) f₀) (drop (length (fieldTable l′)) f₀′) extra (l .fields) (l′ .fields) 0 i same
     (λ j h. ap bit (marks j (omega arith))) less
 
 -- the mark hangs on the contents alone
-pub mark-same : (e e′ : List ℕ) (h h′ : Header) → header-content e′ h′ ≡ header-content e h → (i : ℕ) → mark (h′ .lists) i ≡ mark (h .lists) i
-unfolding header-content
+pub mark-same : (e e′ : List ℕ) (h h′ : Header) → headerContent e′ h′ ≡ headerContent e h → (i : ℕ) → mark (h′ .lists) i ≡ mark (h .lists) i
+unfolding headerContent
 mark-same e e′ h h′ same i =
-    ap (λ (l : List ℕ). dark l (h′ .lists .columns) i) (parents-same e′ (h′ .lists .fields)) ∙ ap (λ (c : HeaderContent). dark (parents-in (c .fields)) (c .columns) i) same
+    ap (λ (l : List ℕ). dark l (h′ .lists .columns) i) (parents-same e′ (h′ .lists .fields)) ∙ ap (λ (c : HeaderContent). dark (parentsIn (c .fields)) (c .columns) i) same
     ∙ sym (ap (λ (l : List ℕ). dark l (h .lists .columns) i) (parents-same e (h .lists .fields)))
 
-pub field-counts : (e e′ : List ℕ) (h h′ : Header) → header-content e′ h′ ≡ header-content e h → length (h′ .lists .fields) ≡ length (h .lists .fields)
-unfolding header-content
+pub field-counts : (e e′ : List ℕ) (h h′ : Header) → headerContent e′ h′ ≡ headerContent e h → length (h′ .lists .fields) ≡ length (h .lists .fields)
+unfolding headerContent
 field-counts e e′ h h′ same =
-    sym (length-map (h′ .lists .fields) (field-content e′)) ∙ ap (λ (t : HeaderContent). length (t .fields)) same ∙ length-map (h .lists .fields) (field-content e)
+    sym (length-map (h′ .lists .fields) (fieldContent e′)) ∙ ap (λ (t : HeaderContent). length (t .fields)) same ∙ length-map (h .lists .fields) (fieldContent e)
 
 -- equal contents: rows have the same room, and the tables are the same
 
-pub same-room : (e e′ : List ℕ) (h h′ : Header) (f c a : ℕ) → header-content e′ h′ ≡ header-content e h → roomFor f c a (h .lists) ≡ true
+pub same-room : (e e′ : List ℕ) (h h′ : Header) (f c a : ℕ) → headerContent e′ h′ ≡ headerContent e h → roomFor f c a (h .lists) ≡ true
     → roomFor f c a (h′ .lists) ≡ true
-unfolding header-content
+unfolding headerContent
 same-room e e′ h h′ f c a same room =
     let fields = field-counts e e′ h h′ same in
     let columns : length (h′ .lists .columns) ≡ length (h .lists .columns) = ap (λ (t : HeaderContent). length (t .columns)) same in
     let aliases : length (h′ .lists .aliases) ≡ length (h .lists .aliases) = ap (λ (t : HeaderContent). length (t .aliases)) same in
     rw (fields, columns, aliases) room
 
-pub same-tables : (e e′ f₀ c₀ a₀ : List ℕ) (h h′ : Header) → header-content e′ h′ ≡ header-content e h
+pub same-tables : (e e′ f₀ c₀ a₀ : List ℕ) (h h′ : Header) → headerContent e′ h′ ≡ headerContent e h
     → SameTables e (over (fieldTable (h .lists)) f₀) (over (columnTable (h .lists)) c₀) (over (aliasTable (h .lists)) a₀) (answer-of h) e′ (over (fieldTable (h′ .lists)) f₀) (over (columnTable (h′ .lists)) c₀) (over (aliasTable (h′ .lists)) a₀) (answer-of h′)
-unfolding header-content
+unfolding headerContent
 same-tables e e′ f₀ c₀ a₀ h h′ same =
     record {
-      field-count = field-counts e e′ h h′ same;
-      column-count = ap (λ (t : HeaderContent). length (t .columns)) same;
-      alias-count = ap (λ (t : HeaderContent). length (t .aliases)) same;
+      fieldCount = field-counts e e′ h h′ same;
+      columnCount = ap (λ (t : HeaderContent). length (t .columns)) same;
+      aliasCount = ap (λ (t : HeaderContent). length (t .aliases)) same;
       name = ap (λ (t : HeaderContent). t .name) same;
       description = ap (λ (t : HeaderContent). t .description) same;
-      fields = fields-say e e′ f₀ f₀ (h .lists) (h′ .lists) [] (ap (λ (t : HeaderContent). t .fields) same ∙ sym (append-nil (map (field-content e) (h .lists .fields)))) (λ i _. mark-same e e′ h h′ same i);
+      fields = fields-say e e′ f₀ f₀ (h .lists) (h′ .lists) [] (ap (λ (t : HeaderContent). t .fields) same ∙ sym (append-nil (map (fieldContent e) (h .lists .fields)))) (λ i _. mark-same e e′ h h′ same i);
       columns = ap (λ (t : HeaderContent). over (flat columnWords (t .columns)) c₀) same;
       aliases = ap (λ (t : HeaderContent). over (flat aliasWords (t .aliases)) a₀) same;
     }

@@ -20,8 +20,8 @@ use Rattle.page_list.specs.declared.PageRow.{PageRow}
 use Rattle.page_list.specs.declared.PageListAnswer.the-variants.{Accepted}
 use Rattle.tree.specs.Bytes.{Bytes}
 use Rattle.tree.specs.EnvelopeTree.{unsummed}
-use Rattle.tree.specs.HeaderTree.{FieldContent, HeaderContent, field-content, header-content, render-header, tables-of}
-use Rattle.tree.specs.PageListTree.{PageContent, PageListPayload, page-list-carrier, page-list-shape, page-rows, PageListTree, render-page-list}
+use Rattle.tree.specs.HeaderTree.{FieldContent, HeaderContent, fieldContent, headerContent, renderHeader, tablesOf}
+use Rattle.tree.specs.PageListTree.{PageContent, PageListPayload, pageListCarrier, pageListShape, pageRows, PageListTree, renderPageList}
 use Rattle.tree.proofs.PageListLaws.{summed-found, page-list-render, page-list-complete, page-list-sound, page-list-known}
 use Rattle.tree.proofs.HeaderLaws.{tables-known}
 use Rattle.tree.proofs.TreeUnique.{page-list-unique}
@@ -31,7 +31,7 @@ use Rattle.forward.proofs.Extending.{grown-each, grown-right}
 use Rattle.forward.proofs.HeaderForward.{the-header, still-read}
 use Rattle.forward.proofs.Besides.{both-read, both-read-is}
 
-grown-page-list : (old new : PageListPayload) → GrownList GrownFrame old new → page-list-carrier .content old ≡ page-list-carrier .content new
+grown-page-list : (old new : PageListPayload) → GrownList GrownFrame old new → pageListCarrier .content old ≡ pageListCarrier .content new
 grown-page-list old new g = grown-each (map (λ (p : PageContent). p)) (old .inside) (new .inside) (g .inside)
 
 -- totals look only at numbers
@@ -42,20 +42,20 @@ totals-in entries cs pss i (c ∷ rest) =
     both (pick (both (eqb (c .head .parent .0) i) (eqb (c .head .flags) 0)) (totalOf entries i cs pss) true) (totals-in entries cs pss (suc i) rest)
 
 totals-same : (s : List ℕ) (entries : ℕ) (cs : List ColumnRow) (pss : List (List PageRow)) (i : ℕ) (rows : List FieldRow)
-    → totals entries cs pss i rows ≡ totals-in entries cs pss i (map (field-content s) rows)
+    → totals entries cs pss i rows ≡ totals-in entries cs pss i (map (fieldContent s) rows)
 unfolding totals totals-in
 totals-same s entries cs pss i [] = refl
 totals-same s entries cs pss i (r ∷ rs) = rw (totals-same s entries cs pss (suc i) rs) refl
 
-totals-tables : (e e′ : List ℕ) (h h′ : Header) (entries : ℕ) (pss : List (List PageRow)) → header-content e′ h′ ≡ header-content e h
+totals-tables : (e e′ : List ℕ) (h h′ : Header) (entries : ℕ) (pss : List (List PageRow)) → headerContent e′ h′ ≡ headerContent e h
     → totals entries (h′ .lists .columns) pss 0 (h′ .lists .fields) ≡ totals entries (h .lists .columns) pss 0 (h .lists .fields)
-unfolding header-content
+unfolding headerContent
 totals-tables e e′ h h′ entries pss same =
     totals-same e′ entries (h′ .lists .columns) pss 0 (h′ .lists .fields) ∙ ap (λ (c : HeaderContent). totals-in entries (c .columns) pss 0 (c .fields)) same
     ∙ sym (totals-same e entries (h .lists .columns) pss 0 (h .lists .fields))
 
-same-columns : (e e′ : List ℕ) (h h′ : Header) → header-content e′ h′ ≡ header-content e h → h′ .lists .columns ≡ h .lists .columns
-unfolding header-content
+same-columns : (e e′ : List ℕ) (h h′ : Header) → headerContent e′ h′ ≡ headerContent e h → h′ .lists .columns ≡ h .lists .columns
+unfolding headerContent
 same-columns e e′ h h′ same = ap (λ (c : HeaderContent). c .columns) same
 
 -- the tree of an envelope that lists pages
@@ -73,15 +73,15 @@ the-page-list file bits l pages p bytes reads =
 
 -- a page list that is kept or extended is read, and says the same
 still-listed : (file : ℕ) (bits l : List ℕ) (pages : List (List PageRow)) (p : ℕ) → envelope 1 (payload file bits) l ≡ found pages p
-    → (the : ThePageList file bits l) (u : PageListTree) → ChosenPageList (the .tree) u → length (render-page-list u) ≤ ceiling
-    → envelope 1 (payload file bits) (render-page-list u) ≡ found pages (length (unsummed (λ _. page-list-shape file bits) u))
+    → (the : ThePageList file bits l) (u : PageListTree) → ChosenPageList (the .tree) u → length (renderPageList u) ≤ ceiling
+    → envelope 1 (payload file bits) (renderPageList u) ≡ found pages (length (unsummed (λ _. pageListShape file bits) u))
 still-listed file bits l pages p reads the u ch small =
     let known = page-list-known file bits (the .tree) (the .right) l (the .bytes) pages p reads in
-    let (right, same) = grown-right 1 page-list-carrier (λ _. page-list-shape file bits) (GrownList GrownFrame) grown-page-list (λ _ _ c v. v) (the .tree) u (the .right) ch in
-    page-list-complete file bits u right small ∙ ap (λ (x : List (List PageRow)). found x (length (unsummed (λ _. page-list-shape file bits) u))) (sym (ap (page-rows 0) same) ∙ sym known)
+    let (right, same) = grown-right 1 pageListCarrier (λ _. pageListShape file bits) (GrownList GrownFrame) grown-page-list (λ _ _ c v. v) (the .tree) u (the .right) ch in
+    page-list-complete file bits u right small ∙ ap (λ (x : List (List PageRow)). found x (length (unsummed (λ _. pageListShape file bits) u))) (sym (ap (pageRows 0) same) ∙ sym known)
 
 -- beside a header with the same tables
-listed-beside : (e e′ : List ℕ) (h h′ : Header) (entries file : ℕ) (l : List ℕ) (pages : List (List PageRow)) (p : ℕ) → header-content e′ h′ ≡ header-content e h
+listed-beside : (e e′ : List ℕ) (h h′ : Header) (entries file : ℕ) (l : List ℕ) (pages : List (List PageRow)) (p : ℕ) → headerContent e′ h′ ≡ headerContent e h
     → totals entries (h .lists .columns) pages 0 (h .lists .fields) ≡ true → envelope 1 (payload file (bitsOf (h .lists .columns))) l ≡ found pages p
     → pageListOf h′ entries file l ≡ found pages p
 unfolding pageListOf summed
@@ -99,27 +99,27 @@ pages-read n count (refusal k r) e = let z : _≡_ {A = ℕ} 0 1 = cc in absurd 
 
 -- demand 3 for the page-list reader
 pub page-list-forward : PageListForward
-unfolding pageListBeside pageListOf header-content
+unfolding pageListBeside pageListOf headerContent
 page-list-forward e l entries file p₀ p count bytes bytes′ call =
     let (pages, is) = pages-read (length p₀) count (pageListBeside e l entries file) (call .answers) in
     let b = both-read 3 (λ h. pageListOf h entries file l) (headerOf e) pages is in
     let h = b .header in
     let header = the-header e h (b .place) bytes (b .reads) in
-    let columns : h .lists .columns ≡ tables-of (header .tree) .columns = ap (λ (c : HeaderContent). c .columns) (tables-known (header .tree) (header .right) e h (b .place) (header .bytes) (b .reads)) in
+    let columns : h .lists .columns ≡ tablesOf (header .tree) .columns = ap (λ (c : HeaderContent). c .columns) (tables-known (header .tree) (header .right) e h (b .place) (header .bytes) (b .reads)) in
     let (inner, total) = summed-found entries (h .lists) (envelope 1 (payload file (bitsOf (h .lists .columns))) l) pages (b .stop) (b .inner) in
     let list = the-page-list file (bitsOf (h .lists .columns)) l pages (b .stop) bytes′ inner in
     record {
       header = header;
-      page-list = subst (λ (c : List ColumnRow). ThePageList file (bitsOf c) l) columns list;
+      pageList = subst (λ (c : List ColumnRow). ThePageList file (bitsOf c) l) columns list;
       forward = λ t u ch ch′ small small′ p′ r′ call′.
-          let e′ = render-header t in
-          let l′ = render-page-list u in
+          let e′ = renderHeader t in
+          let l′ = renderPageList u in
           let still = still-read e h (b .place) (b .reads) header t ch small in
           let inner′ = ap (λ (c : List ColumnRow). envelope 1 (payload file (bitsOf c)) l) (sym columns) ∙ inner in
-          let again = still-listed file (bitsOf (tables-of (header .tree) .columns)) l pages (b .stop) inner′ (subst (λ (c : List ColumnRow). ThePageList file (bitsOf c) l) columns list) u ch′ small′ in
-          let n = length (unsummed (λ _. page-list-shape file (bitsOf (tables-of (header .tree) .columns))) u) in
+          let again = still-listed file (bitsOf (tablesOf (header .tree) .columns)) l pages (b .stop) inner′ (subst (λ (c : List ColumnRow). ThePageList file (bitsOf c) l) columns list) u ch′ small′ in
+          let n = length (unsummed (λ _. pageListShape file (bitsOf (tablesOf (header .tree) .columns))) u) in
           let listed : pageListOf (still .header) entries file l′ ≡ found pages n = listed-beside e e′ h (still .header) entries file l′ pages n (still .contents) total (ap (λ (c : List ColumnRow). envelope 1 (payload file (bitsOf c)) l′) columns ∙ again) in
           let is′ : pageListBeside e′ l′ entries file ≡ read pages = both-read-is 3 (λ x. pageListOf x entries file l′) (headerOf e′) pages (still .header) (still .place) n (still .reads) listed in
           let same : pageListBeside e′ l′ entries file ≡ pageListBeside e l entries file = is′ ∙ sym is in
-          (call′ .answers ∙ ap (answer (length p₀)) same ∙ sym (call .answers), call′ .pages-are ∙ ap (written (length p₀) p₀) same ∙ sym (call .pages-are));
+          (call′ .answers ∙ ap (answer (length p₀)) same ∙ sym (call .answers), call′ .pagesAre ∙ ap (written (length p₀) p₀) same ∙ sym (call .pagesAre));
     }

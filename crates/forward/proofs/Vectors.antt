@@ -25,9 +25,9 @@ use Rattle.page_list.specs.declared.PageListAnswer.the-variants.{Accepted as Ac
 use Rattle.page_list.specs.PageList.{pageListOf, summed, pages, page, pagesOf, totals, totalOf, elementsOf, payload as page-payload}
 use Rattle.tree.specs.Bytes.{spelled}
 use Rattle.tree.specs.EnvelopeTree.{unsummed, sealed}
-use Rattle.tree.specs.HeaderTree.{feature-words, texts-shape, lists-shape, payload-shape, head-shape, strings-shape, field-shape, column-shape, render-header}
-use Rattle.tree.specs.FooterTree.{FooterTree, footer-shape, cluster-shape, link-shape, render-footer}
-use Rattle.tree.specs.PageListTree.{PageListTree, page-list-shape, pages-shape, page-shape, render-page-list}
+use Rattle.tree.specs.HeaderTree.{featureWords, textsShape, listsShape, payloadShape, headShape, stringsShape, fieldShape, columnShape, renderHeader}
+use Rattle.tree.specs.FooterTree.{FooterTree, footerShape, clusterShape, linkShape, renderFooter}
+use Rattle.tree.specs.PageListTree.{PageListTree, pageListShape, pagesShape, pageShape, renderPageList}
 use Rattle.forward.proofs.Samples.{smallest, with-field}
 
 -- headers
@@ -48,8 +48,8 @@ pub smallest-header-read : headerOf smallest-header ≡ found small 44
 unfolding versioned opened recordOf listOf items number judged string ascii frameSize recordHead listStop countJudged little crc32 fold byte bits shifted features headerOf chained payload texts lists columnsAfter aliasesAfter repetition fieldHead fieldTexts field column alias known widthOf widths allReach meets
 smallest-header-read = refl
 
-pub smallest-header-rendered : render-header smallest ≡ smallest-header
-unfolding sealed unsummed payload-shape texts-shape lists-shape feature-words spelled crc32 fold byte bits shifted
+pub smallest-header-rendered : renderHeader smallest ≡ smallest-header
+unfolding sealed unsummed payloadShape textsShape listsShape featureWords spelled crc32 fold byte bits shifted
 smallest-header-rendered = refl
 
 abbrev pub field-header : List ℕ
@@ -86,8 +86,8 @@ pub field-header-read : headerOf field-header ≡ found one 97
 unfolding versioned opened recordOf listOf items number judged string ascii frameSize recordHead listStop countJudged little crc32 fold byte bits shifted features headerOf chained payload texts lists columnsAfter aliasesAfter repetition fieldHead fieldTexts field column alias known widthOf widths allReach meets
 field-header-read = refl
 
-pub field-header-rendered : render-header with-field ≡ field-header
-unfolding sealed unsummed payload-shape texts-shape lists-shape feature-words spelled field-shape head-shape strings-shape column-shape crc32 fold byte bits shifted
+pub field-header-rendered : renderHeader with-field ≡ field-header
+unfolding sealed unsummed payloadShape textsShape listsShape featureWords spelled fieldShape headShape stringsShape columnShape crc32 fold byte bits shifted
 field-header-rendered = refl
 
 -- footers
@@ -146,8 +146,8 @@ footer-tree =
       spare = [];
     }
 
-pub cluster-footer-rendered : render-footer footer-tree ≡ cluster-footer
-unfolding sealed unsummed footer-shape cluster-shape link-shape feature-words spelled little crc32 fold byte bits shifted
+pub cluster-footer-rendered : renderFooter footer-tree ≡ cluster-footer
+unfolding sealed unsummed footerShape clusterShape linkShape featureWords spelled little crc32 fold byte bits shifted
 cluster-footer-rendered = refl
 
 -- page lists
@@ -183,8 +183,8 @@ page-list-tree =
       spare = [];
     }
 
-pub one-page-list-rendered : render-page-list page-list-tree ≡ one-page-list
-unfolding sealed unsummed page-list-shape pages-shape page-shape spelled crc32 fold byte bits shifted
+pub one-page-list-rendered : renderPageList page-list-tree ≡ one-page-list
+unfolding sealed unsummed pageListShape pagesShape pageShape spelled crc32 fold byte bits shifted
 one-page-list-rendered = refl
 
 -- accepting calls: the tables that are lent, and what the calls leave in them
@@ -206,7 +206,7 @@ header-answer = record { texts = one .texts; fields = 1; columns = 1; aliases = 
 
 pub header-call : Answered (headerOf field-header) lent-fields left-fields lent-columns left-columns [] [] (Accepted header-answer)
 unfolding answer written fieldWords columnWords aliasWords flat flatBy dark known meets
-header-call = rw field-header-read (record { answers = refl; fields-are = refl; columns-are = refl; aliases-are = refl })
+header-call = rw field-header-read (record { answers = refl; fieldsAre = refl; columnsAre = refl; aliasesAre = refl })
 
 abbrev pub lent-clusters : List ℕ
 lent-clusters = 9 ∷ 9 ∷ 9 ∷ 9 ∷ []
@@ -222,7 +222,7 @@ left-links = 7 ∷ 0 ∷ 9 ∷ []
 
 pub footer-call : AnsweredFooter (footerBeside field-header cluster-footer 140) lent-clusters left-clusters lent-links left-links (AcceptedFooter 1 1)
 unfolding footerBeside footer-answer footer-written flat
-footer-call = rw (field-header-read, cluster-footer-read) (record { answers = refl; clusters-are = refl; metadata-are = refl })
+footer-call = rw (field-header-read, cluster-footer-read) (record { answers = refl; clustersAre = refl; metadataAre = refl })
 
 abbrev pub lent-pages : List ℕ
 lent-pages = 9 ∷ 9 ∷ 9 ∷ 9 ∷ 9 ∷ 9 ∷ []
@@ -232,4 +232,4 @@ left-pages = 0 ∷ 3 ∷ 0 ∷ 24 ∷ 50 ∷ 9 ∷ []
 
 pub page-list-call : AnsweredPages (pageListBeside field-header one-page-list 3 74) lent-pages left-pages (AcceptedPages 1)
 unfolding pageListBeside pages-answer pages-written flat pagesOf
-page-list-call = rw (field-header-read, one-page-list-read) (record { answers = refl; pages-are = refl })
+page-list-call = rw (field-header-read, one-page-list-read) (record { answers = refl; pagesAre = refl })

@@ -36,7 +36,7 @@ use Rattle.header.proofs.RowLaws.{rows-end, rows-endless}
 -- a refused header changes no table
 pub answered-refused : {x : Step Header} {g : Fault} (f c a : List ℕ) → x ≡ refused g → Answered x f f c c a a (Refused (g .number))
 unfolding answer written
-answered-refused f c a e = record { answers = rw e; fields-are = rw e; columns-are = rw e; aliases-are = rw e }
+answered-refused f c a e = record { answers = rw e; fieldsAre = rw e; columnsAre = rw e; aliasesAre = rw e }
 
 both-true : (x y : Bool) → both x y ≡ true → (x ≡ true) × (y ≡ true)
 both-true true y e = (refl, e)
@@ -79,12 +79,12 @@ module _ (strict : Bool) (s : List ℕ) {scan : HeaderScan} {q : ℕ} {p₀ p f�
   some-flags = ap (take (scan .lists .fields)) (k .collected (m .value) (stood .0) (stood .1) .1) ∙ (take-at (flagsOf (m .value .lists .fields)) _ (scan .lists .fields) (length-map (m .value .lists .fields) (λ (r : FieldRow). r .head .flags) ∙ count))
 
   pub chains-few : scan .lists .fields ≤ 512
-  chains-few = let l = list-most strict 512 (λ n _. recordOf strict (field n)) s (scan .lists .«fields_at») (rows .fields-are) in let n = count in omega arith
+  chains-few = let l = list-most strict 512 (λ n _. recordOf strict (field n)) s (scan .lists .«fields_at») (rows .fieldsAre) in let n = count in omega arith
 
   pub chains-inside : Inside p (scan .lists .fields)
   chains-inside i h =
       let n = count in
-      let b = each-map (λ (r : FieldRow). r .head .parent .0) (length (m .value .lists .fields)) (m .value .lists .fields) (parents-below strict s (scan .lists .«fields_at») (rows .fields-are)) i (omega arith) in
+      let b = each-map (λ (r : FieldRow). r .head .parent .0) (length (m .value .lists .fields)) (m .value .lists .fields) (parents-below strict s (scan .lists .«fields_at») (rows .fieldsAre)) i (omega arith) in
       let g = getD-take (scan .lists .fields) p i 0 h in
       let w : getD (take (scan .lists .fields) p) i 0 ≡ getD (parentsOf (m .value .lists .fields)) i 0 = ap (λ (l : List ℕ). getD l i 0) some-parents in
       omega arith
@@ -107,7 +107,7 @@ module _ (strict : Bool) (s : List ℕ) {scan : HeaderScan} {q : ℕ} {p₀ p f�
       unfolding answer written
       no-room r =
           let z = sym fits-same ∙ sym r in
-          record { answers = rw (header-found, z); fields-are = rw (header-found, z); columns-are = rw (header-found, z); aliases-are = rw (header-found, z) }
+          record { answers = rw (header-found, z); fieldsAre = rw (header-found, z); columnsAre = rw (header-found, z); aliasesAre = rw (header-found, z) }
 
       module _ (r : true ≡ fitting (length F) (length C) (length A) (scan .lists)) where
         pub ready : Ready strict s (scan .lists) p (take (scan .lists .fields) f) (length F) (length C) (length A)
@@ -120,11 +120,11 @@ module _ (strict : Bool) (s : List ℕ) {scan : HeaderScan} {q : ℕ} {p₀ p f�
             record {
               read = rw again;
               sums = rw again is-lists;
-              parents-are = rw again some-parents;
-              flags-are = rw again some-flags;
-              fields-fit = omega arith;
-              columns-fit = omega arith;
-              aliases-fit = omega arith;
+              parentsAre = rw again some-parents;
+              flagsAre = rw again some-flags;
+              fieldsFit = omega arith;
+              columnsFit = omega arith;
+              aliasesFit = omega arith;
             }
 
         pub all-read : {F′ C′ A′ : List ℕ}
@@ -137,9 +137,9 @@ module _ (strict : Bool) (s : List ℕ) {scan : HeaderScan} {q : ℕ} {p₀ p f�
             let t = sym fits-same ∙ sym r in
             record {
               answers = rw (header-found, t) (ap (λ (v : HeaderScan). Accepted (record { texts = v .texts; fields = v .lists .fields; columns = v .lists .columns; aliases = v .lists .aliases })) (m .is));
-              fields-are = rw (header-found, t) (rw again at x);
-              columns-are = rw (header-found, t) (rw again at y);
-              aliases-are = rw (header-found, t) (rw again at z);
+              fieldsAre = rw (header-found, t) (rw again at x);
+              columnsAre = rw (header-found, t) (rw again at y);
+              aliasesAre = rw (header-found, t) (rw again at z);
             }
 
 pub chained-refused : {x : Step Header} {g : Fault} → x ≡ refused g → chained x ≡ refused g

@@ -37,16 +37,16 @@ module _ {strict : Bool} {s : List ℕ} {scan : HeaderLists} {parents flags : Li
   aliases-count = ap (λ (l : HeaderLists). l .aliases) (r .sums)
 
   pub fields-ready : fieldList strict s (scan .«fields_at») ≡ found (listsAt strict s (scan .«fields_at») .fields) (listsAt strict s (scan .«fields_at») .columnsAt)
-  fields-ready = parts .1 .fields-are
+  fields-ready = parts .1 .fieldsAre
 
   pub columns-ready : columnList strict (scan .fields) s (scan .«columns_at») ≡ found (listsAt strict s (scan .«fields_at») .columns) (listsAt strict s (scan .«fields_at») .aliasesAt)
-  columns-ready = let e = ap (λ (l : HeaderLists). l .«columns_at») (r .sums) in rw (fields-count, e) (parts .1 .columns-are)
+  columns-ready = let e = ap (λ (l : HeaderLists). l .«columns_at») (r .sums) in rw (fields-count, e) (parts .1 .columnsAre)
 
   aliases-from : (p : ℕ) → Parts strict s (scan .«fields_at») (listsAt strict s (scan .«fields_at»)) p → aliasList strict flags (scan .columns) s (scan .«aliases_at») ≡ found (listsAt strict s (scan .«fields_at») .aliases) p
   aliases-from p q =
       let e = ap (λ (l : HeaderLists). l .«aliases_at») (r .sums) in
-      subst (λ (x : List ℕ). aliasList strict x (scan .columns) s (scan .«aliases_at») ≡ found (listsAt strict s (scan .«fields_at») .aliases) p) (sym (r .flags-are))
-      (rw (columns-count, e) (q .aliases-are))
+      subst (λ (x : List ℕ). aliasList strict x (scan .columns) s (scan .«aliases_at») ≡ found (listsAt strict s (scan .«fields_at») .aliases) p) (sym (r .flagsAre))
+      (rw (columns-count, e) (q .aliasesAre))
 
   pub aliases-ready : (p : ℕ) × (aliasList strict flags (scan .columns) s (scan .«aliases_at») ≡ found (listsAt strict s (scan .«fields_at») .aliases) p)
   aliases-ready = (parts .0, aliases-from (parts .0) (parts .1))
@@ -57,7 +57,7 @@ module _ {strict : Bool} {s : List ℕ} {scan : HeaderLists} {parents flags : Li
   pub inside : Inside parents (scan .fields)
   inside i h =
       let b = each-map (λ (r : FieldRow). r .head .parent .0) (length (listsAt strict s (scan .«fields_at») .fields)) (listsAt strict s (scan .«fields_at») .fields) (parents-below strict s (scan .«fields_at») fields-ready) i (rw fields-count at h) in
-      rw (← getD-take (scan .fields) parents i 0 h, r .parents-are, fields-count) b
+      rw (← getD-take (scan .fields) parents i 0 h, r .parentsAre, fields-count) b
 
   -- the table of columns, once it is written
   module _ {table : List ℕ} (old : List ℕ) (stored : table ≡ over (flat columnWords (rowsOf (columnList strict (scan .fields) s (scan .«columns_at»)))) old) where
@@ -76,7 +76,7 @@ module _ {strict : Bool} {s : List ℕ} {scan : HeaderLists} {parents flags : Li
         → ftable ≡ over (fieldTable (listsAt strict s (scan .«fields_at»))) fold
     fields-stored marks fold e stored =
         let same = flat-same (λ i. fieldWords (getD marks i 0)) (λ i. fieldWords (bit (dark (parentsOf (listsAt strict s (scan .«fields_at») .fields)) (listsAt strict s (scan .«fields_at») .columns) i)))
-        (λ i x. ap (λ d. fieldWords d x) (rw (r .parents-are, columns-back) at (e i))) 0 (listsAt strict s (scan .«fields_at») .fields) in
+        (λ i x. ap (λ d. fieldWords d x) (rw (r .parentsAre, columns-back) at (e i))) 0 (listsAt strict s (scan .«fields_at») .fields) in
         rw (fields-ready, same) at stored
 
   pub aliases-stored : {table : List ℕ} (old : List ℕ) → table ≡ over (flat aliasWords (rowsOf (aliasList strict flags (scan .columns) s (scan .«aliases_at»)))) old

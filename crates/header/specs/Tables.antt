@@ -29,8 +29,8 @@ parentsOf = map (λ (r : FieldRow). r .head .parent .0)
 
 -- what a scan of the fields leaves in two tables, where the fields are accepted: the parent and the flags of each in front
 pub record Collected (fields : Step (List FieldRow)) (parents₀ parents flags₀ flags : List ℕ) : Type 0 where
-  pub parents-are : accepted fields ≡ true → parents ≡ over (parentsOf (rowsOf fields)) parents₀
-  pub flags-are : accepted fields ≡ true → flags ≡ over (flagsOf (rowsOf fields)) flags₀
+  pub parentsAre : accepted fields ≡ true → parents ≡ over (parentsOf (rowsOf fields)) parents₀
+  pub flagsAre : accepted fields ≡ true → flags ≡ over (flagsOf (rowsOf fields)) flags₀
 
 -- the same where the fields are the first of three lists
 pub record Kept (l : Step Lists) (parents₀ parents flags₀ flags : List ℕ) : Type 0 where
@@ -122,9 +122,9 @@ written words f c a old (refused g) = old
 -- all that a call leaves, for a header and three lent tables
 pub record Answered (x : Step Header) (f₀ f c₀ c a₀ a : List ℕ) (r : HeaderAnswer) : Type 0 where
   pub answers : r ≡ answer (length f₀) (length c₀) (length a₀) x
-  pub fields-are : f ≡ written fieldTable (length f₀) (length c₀) (length a₀) f₀ x
-  pub columns-are : c ≡ written columnTable (length f₀) (length c₀) (length a₀) c₀ x
-  pub aliases-are : a ≡ written aliasTable (length f₀) (length c₀) (length a₀) a₀ x
+  pub fieldsAre : f ≡ written fieldTable (length f₀) (length c₀) (length a₀) f₀ x
+  pub columnsAre : c ≡ written columnTable (length f₀) (length c₀) (length a₀) c₀ x
+  pub aliasesAre : a ≡ written aliasTable (length f₀) (length c₀) (length a₀) a₀ x
 
 -- the lists that stand at a place, none where they are refused
 abbrev pub listsIn : Step Lists → Lists
@@ -138,8 +138,8 @@ listsAt strict s at = listsIn (lists strict s at)
 pub record Ready (strict : Bool) (s : List ℕ) (scan : HeaderLists) (parents flags : List ℕ) (f c a : ℕ) : Type 0 where
   pub read : accepted (lists strict s (scan .«fields_at»)) ≡ true
   pub sums : scan ≡ summary (listsAt strict s (scan .«fields_at»))
-  pub parents-are : take (scan .fields) parents ≡ parentsOf (listsAt strict s (scan .«fields_at») .fields)
-  pub flags-are : flags ≡ flagsOf (listsAt strict s (scan .«fields_at») .fields)
-  pub fields-fit : 15 * (scan .fields) ≤ f
-  pub columns-fit : 4 * (scan .columns) ≤ c
-  pub aliases-fit : 2 * (scan .aliases) ≤ a
+  pub parentsAre : take (scan .fields) parents ≡ parentsOf (listsAt strict s (scan .«fields_at») .fields)
+  pub flagsAre : flags ≡ flagsOf (listsAt strict s (scan .«fields_at») .fields)
+  pub fieldsFit : 15 * (scan .fields) ≤ f
+  pub columnsFit : 4 * (scan .columns) ≤ c
+  pub aliasesFit : 2 * (scan .aliases) ≤ a

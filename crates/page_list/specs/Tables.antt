@@ -43,4 +43,4 @@ written n old (refusal k r) = old
 -- all that a call leaves, for a page list read beside its header and a lent table
 pub record Answered (x : Beside (List (List PageRow))) (p₀ p : List ℕ) (r : PageListAnswer) : Type 0 where
   pub answers : r ≡ answer (length p₀) x
-  pub pages-are : p ≡ written (length p₀) p₀ x
+  pub pagesAre : p ≡ written (length p₀) p₀ x

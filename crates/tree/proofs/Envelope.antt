@@ -15,7 +15,7 @@ use Rattle.wire.specs.Reading.{Step, found, refused, Rule, closed}
 use Rattle.wire.specs.Envelope.{versioned, versionOf, opened, enclosed, ceiling, strictOf, checksumOf}
 use Rattle.tree.specs.Bytes.{spelled, Stands, Bytes}
 use Rattle.tree.specs.Shape.{Carrier, Shape, Read, Written, Law}
-use Rattle.tree.specs.EnvelopeTree.{Enveloped, unsummed, sealed, render-envelope, Right}
+use Rattle.tree.specs.EnvelopeTree.{Enveloped, unsummed, sealed, renderEnvelope, Right}
 use Rattle.tree.proofs.Place.{length-spelled, stands-left, stands-right, stands-join, part-stands, little-spelled, little-bound, spelled-little, container-long}
 use Rattle.tree.proofs.Simple.{pick-found, both-true}
 use Rattle.tree.proofs.Frames.{closed-complete, Closed, closed-sound, spare-of, spare-long, spare-stands, spare-none}
@@ -93,8 +93,8 @@ was-opened supported r s a q e =
 pub record Tree {A T C : Type 0} (supported : ℕ) (K : Carrier T C) (S : ℕ → Shape T C) (M : C → A → Type 0) (s : List ℕ) (a : A) : Type 0 where
   pub tree : Enveloped T
   pub right : Right supported K S tree
-  pub bytes : render-envelope S tree ≡ s
-  pub small : length (render-envelope S tree) ≤ ceiling
+  pub bytes : renderEnvelope S tree ≡ s
+  pub small : length (renderEnvelope S tree) ≤ ceiling
   pub means : M (K .content (tree .inside)) a
 
 -- the parts of what stands before the checksum
@@ -172,7 +172,7 @@ module _ {A T C : Type 0} (supported : ℕ) (r : ℕ → Bool → Rule A) (K : C
       → Read C (versioned supported r s) (length (unsummed S e)) (M s) (K .content (e .inside))
   complete-at e right s small seal =
       let u = unsummed S e in
-      let p = parts S e s (right .version-fits) (omega (arith, right .version-fits, right .order)) (seal .stands) in
+      let p = parts S e s (right .versionFits) (omega (arith, right .versionFits, right .order)) (seal .stands) in
       let n = length u in
       let inner = S (e .version) .render (e .inside) in
       let sum : crc32 (take n s) ≡ little 4 s n = ap crc32 (seal .part) ∙ sym (seal .sum) in
@@ -195,9 +195,9 @@ module _ {A T C : Type 0} (supported : ℕ) (r : ℕ → Bool → Rule A) (K : C
         means = read .means;
       }
 
-  pub envelope-complete : (e : Enveloped T) → Right supported K S e → length (render-envelope S e) ≤ ceiling
-      → Read C (versioned supported r (render-envelope S e)) (length (unsummed S e)) (M (render-envelope S e)) (K .content (e .inside))
-  envelope-complete e right small = complete-at e right (render-envelope S e) small (sealed-parts (unsummed S e))
+  pub envelope-complete : (e : Enveloped T) → Right supported K S e → length (renderEnvelope S e) ≤ ceiling
+      → Read C (versioned supported r (renderEnvelope S e)) (length (unsummed S e)) (M (renderEnvelope S e)) (K .content (e .inside))
+  envelope-complete e right small = complete-at e right (renderEnvelope S e) small (sealed-parts (unsummed S e))
 
   sound-at : (s : List ℕ) (n : ℕ) (a : A) (q : ℕ) → Bytes s → Opened supported s n → (shut : Closed (strictOf s) n (r (versionOf s) (strictOf s) (take n s) 4) a q)
       → Written s (strictOf s) K (S (versionOf s)) (M s) n 4 a (shut .place) → Tree supported K S (M s) s a
@@ -206,18 +206,18 @@ module _ {A T C : Type 0} (supported : ℕ) (r : ℕ → Bool → Rule A) (K : C
       let inside : n ≤ length s = omega (arith, o .long) in
       let e : Enveloped T = record { version = little 2 s 0; minimum = little 2 s 2; inside = w .tree; spare = spare } in
       let inner = S (little 2 s 0) .render (w .tree) in
-      let version-fits : little 2 s 0 < 65536 = little-bound 2 s 0 bytes in
+      let versionFits : little 2 s 0 < 65536 = little-bound 2 s 0 bytes in
       let minimum-fits : little 2 s 2 < 65536 = little-bound 2 s 2 bytes in
       let first : Stands s 0 (spelled 2 (little 2 s 0)) = spelled-little 2 s 0 bytes (omega (arith, o .enough)) in
       let second : Stands s 2 (spelled 2 (little 2 s 2)) = spelled-little 2 s 2 bytes (omega (arith, o .enough)) in
       let after : Stands s (4 + length inner) spare = subst (λ (y : ℕ). Stands s y spare) (w .stop) (spare-stands s (shut .place) n) in
       let whole : Stands s 0 (unsummed S e) = joined S e s first second (stands-join inner spare (w .stands) after) in
-      let p = parts S e s version-fits minimum-fits whole in
+      let p = parts S e s versionFits minimum-fits whole in
       let size : length (unsummed S e) ≡ n = omega (arith, p .long, spare-long s (shut .place) n inside (w .fits), w .stop, w .fits) in
-      let same : render-envelope S e ≡ s = sealed-is s (unsummed S e) n bytes (o .long) size whole (o .sum) in
-      let small : length (render-envelope S e) ≤ ceiling = rw same (o .small) in
+      let same : renderEnvelope S e ≡ s = sealed-is s (unsummed S e) n bytes (o .long) size whole (o .sum) in
+      let small : length (renderEnvelope S e) ≤ ceiling = rw same (o .small) in
       let right : Right supported K S e = record {
-        version-fits = version-fits;
+        versionFits = versionFits;
         least = o .least;
         order = o .order;
         read = o .read;
@@ -235,12 +235,12 @@ module _ {A T C : Type 0} (supported : ℕ) (r : ℕ → Bool → Rule A) (K : C
       sound-at s n a q bytes o shut w
 
   -- what a right tree of an accepted envelope says is what was read
-  pub envelope-known : (t : Enveloped T) → Right supported K S t → (s : List ℕ) → render-envelope S t ≡ s → (a : A) (q : ℕ)
+  pub envelope-known : (t : Enveloped T) → Right supported K S t → (s : List ℕ) → renderEnvelope S t ≡ s → (a : A) (q : ℕ)
       → versioned supported r s ≡ found a q → M s (K .content (t .inside)) a
   envelope-known t right s bytes a q reads =
       let (o, _) = was-opened supported r s a q reads in
       let one = envelope-complete t right (rw bytes (o .small)) in
-      let again : versioned supported r (render-envelope S t) ≡ found a q = ap (versioned supported r) bytes ∙ reads in
+      let again : versioned supported r (renderEnvelope S t) ≡ found a q = ap (versioned supported r) bytes ∙ reads in
       let same : one .value ≡ a = cc (one .reads, again) in
       subst₂ (λ (x : List ℕ) (y : A). M x (K .content (t .inside)) y) bytes same (one .means)
 

@@ -16,7 +16,7 @@ use Rattle.wire.specs.declared.ListHead.{ListHead as Head}
 use Rattle.wire.specs.declared.FrameSize.the-variants.{RecordSize, ListSize}
 use Rattle.wire.specs.declared.Fault.{Fault}
 use Rattle.tree.specs.Bytes.{spelled, Stands, Bytes}
-use Rattle.tree.specs.Shape.{Carrier, Shape, Read, Written, Law, bare, framed, record-shape, render-items, Valid-items, All, Means, none, more, list-carrier, list-shape}
+use Rattle.tree.specs.Shape.{Carrier, Shape, Read, Written, Law, bare, framed, recordShape, renderItems, ValidItems, All, Means, none, more, listCarrier, listShape}
 use Rattle.tree.proofs.Place.{length-spelled, stands-left, stands-right, stands-join, stands-none, stands-part, little-spelled, little-bound, spelled-little, container-long, little-container, container-in}
 use Rattle.tree.proofs.Simple.{pick-found, after-found, meant}
 
@@ -126,7 +126,7 @@ record-head-sound s end p start stop inside e =
 -- around what stands in it
 record-written : {A T C : Type 0} (s : List ℕ) (strict : Bool) (K : Carrier T C) (S : Shape T C) (M : C → A → Type 0) (x : Step A) (end p start stop : ℕ) (a : A) (q : ℕ)
     → Bytes s → end ≤ length s → RecordHead s end p start stop → (shut : Closed strict stop x a q) → Written s strict K S M stop (p + 4) a (shut .place)
-    → Written s strict (framed K) (record-shape S) M end p a q
+    → Written s strict (framed K) (recordShape S) M end p a q
 record-written s strict K S M x end p start stop a q bytes inside head shut w =
     let inner = S .render (w .tree) in
     let within : stop ≤ length s = omega (arith, head .fits) in
@@ -159,7 +159,7 @@ record-reads strict R s end p start stop a q stop′ head frame inner full stops
     ∙ closed-complete (λ f. f) strict stop a q full ∙ ap (found a) stops
 
 pub record-law : {A T C : Type 0} (s : List ℕ) (strict : Bool) (R : Rule A) (K : Carrier T C) (S : Shape T C) (M : C → A → Type 0) → length s < 2 ^ 31
-    → Law s strict R K S M → Law s strict (recordOf strict R) (framed K) (record-shape S) M
+    → Law s strict R K S M → Law s strict (recordOf strict R) (framed K) (recordShape S) M
 unfolding recordOf
 record-law {A} {T} {C} s strict R K S M small law =
     record {
@@ -186,7 +186,7 @@ record-law {A} {T} {C} s strict R K S M small law =
     }
   where
     go : (end p : ℕ) (a : A) (q : ℕ) → Bytes s → end ≤ length s → (h : Step ℕ) → recordHead (take end s) p ≡ h
-        → recordBody strict R (take end s) h ≡ found a q → Written s strict (framed K) (record-shape S) M end p a q
+        → recordBody strict R (take end s) h ≡ found a q → Written s strict (framed K) (recordShape S) M end p a q
     go end p a q bytes inside (refused f) e reads = not-refused reads
     go end p a q bytes inside (found start stop) e reads =
         let head = record-head-sound s end p start stop inside e in
@@ -210,10 +210,10 @@ within-is head i x a q e = rw e refl
 pub record WrittenItems {A T C : Type 0} (s : List ℕ) (strict : Bool) (K : Carrier T C) (G : List C → Shape T C) (M : List C → C → A → Type 0) (done : List C) (n end p : ℕ) (xs : List A) (q : ℕ) : Type 0 where
   pub trees : List T
   pub count : length trees ≡ n
-  pub valid : Valid-items G done (map (K .content) trees)
+  pub valid : ValidItems G done (map (K .content) trees)
   pub plain : strict ≡ true → All (K .Plain) trees
-  pub stands : Stands s p (render-items K G done trees)
-  pub stop : q ≡ p + length (render-items K G done trees)
+  pub stands : Stands s p (renderItems K G done trees)
+  pub stop : q ≡ p + length (renderItems K G done trees)
   pub fits : q ≤ end
   pub means : Means M (done ++ map (K .content) trees) xs
 
@@ -224,7 +224,7 @@ items-written : {A T C : Type 0} (s : List ℕ) (strict : Bool) (K : Carrier T C
 items-written {C = C} s strict K G M done n end p p′ a xs q one two =
     let c = K .content (one .tree) in
     let b₁ = G done .render (one .tree) in
-    let b₂ = render-items K G (done ++ (c ∷ [])) (two .trees) in
+    let b₂ = renderItems K G (done ++ (c ∷ [])) (two .trees) in
     let right : Stands s (p + length b₁) b₂ = subst (λ (y : ℕ). Stands s y b₂) (one .stop) (two .stands) in
     record {
       trees = one .tree ∷ two .trees;
@@ -246,15 +246,15 @@ items-read head r n before c p a p′ xs q q′ one later stop =
 
 module _ {A T C : Type 0} (s : List ℕ) (strict : Bool) (head : ℕ) (r : List A → Rule A) (K : Carrier T C) (G : List C → Shape T C) (M : List C → C → A → Type 0) (law : (done : List C) (before : List A) → Means M done before → Law s strict (r before) K (G done) (M done)) where
   items-complete : (ts : List T) (done : List C) (before : List A) → Means M done before → (end p : ℕ) → end ≤ length s
-      → Valid-items G done (map (K .content) ts) → (strict ≡ true → All (K .Plain) ts) → Stands s p (render-items K G done ts)
-      → p + length (render-items K G done ts) ≤ end
-      → Read (List C) (items head r (length ts) before (take end s) p) (p + length (render-items K G done ts)) (λ cs xs. Means M cs xs) (done ++ map (K .content) ts)
+      → ValidItems G done (map (K .content) ts) → (strict ≡ true → All (K .Plain) ts) → Stands s p (renderItems K G done ts)
+      → p + length (renderItems K G done ts) ≤ end
+      → Read (List C) (items head r (length ts) before (take end s) p) (p + length (renderItems K G done ts)) (λ cs xs. Means M cs xs) (done ++ map (K .content) ts)
   unfolding items
   items-complete [] done before m end p inside valid plain stands fits = record { value = before; reads = rw (add-zero p) refl; means = rw append-nil m }
   items-complete (t ∷ ts) done before m end p inside valid plain stands fits =
       let c = K .content t in
       let b₁ = G done .render t in
-      let b₂ = render-items K G (done ++ (c ∷ [])) ts in
+      let b₂ = renderItems K G (done ++ (c ∷ [])) ts in
       let long = length-append b₁ b₂ in
       let one = law done before m .complete end p t inside (valid .0) (λ e. plain e .0) (stands-left b₁ b₂ stands) (omega arith) in
       let two = items-complete ts (done ++ (c ∷ [])) (before ++ (one .value ∷ [])) (more m (one .means)) end (p + length b₁) inside (valid .1) (λ e. plain e .1) (stands-right b₁ b₂ stands) (omega arith) in
@@ -373,11 +373,11 @@ list-head-sound verdict s end p h stop inside e =
 list-written : {A T C : Type 0} (s : List ℕ) (strict : Bool) (verdict : ℕ → ℕ) (K : Carrier T C) (G : ℕ → List C → Shape T C) (M : List C → C → A → Type 0) (x : Step (List A)) (end p count start stop : ℕ) (xs : List A) (q : ℕ)
     → Bytes s → end ≤ length s → length s < 2 ^ 31 → ListHead verdict s end p count start stop → (shut : Closed strict stop x xs q)
     → WrittenItems s strict K (G count) M [] count stop (p + 8) xs (shut .place)
-    → Written s strict (list-carrier K) (list-shape K verdict G) (λ cs ys. Means M cs ys) end p xs q
+    → Written s strict (listCarrier K) (listShape K verdict G) (λ cs ys. Means M cs ys) end p xs q
 list-written s strict verdict K G M x end p count start stop xs q bytes inside small head shut w =
     let ts = w .trees in
     let n = length ts in
-    let inner = render-items K (G n) [] ts in
+    let inner = renderItems K (G n) [] ts in
     let same : n ≡ count = w .count in
     let within : stop ≤ length s = omega (arith, head .fits) in
     let spare = spare-of s (shut .place) stop in
@@ -421,7 +421,7 @@ list-reads strict verdict r s end p n start stop xs q stop′ head frame inner f
 
 pub list-law : {A T C : Type 0} (s : List ℕ) (strict : Bool) (verdict : ℕ → ℕ) (r : ℕ → List A → Rule A) (K : Carrier T C) (G : ℕ → List C → Shape T C) (M : List C → C → A → Type 0)
     → length s < 2 ^ 31 → ((n : ℕ) (done : List C) (before : List A) → Means M done before → Law s strict (r n before) K (G n done) (M done))
-    → Law s strict (listOf strict verdict r) (list-carrier K) (list-shape K verdict G) (λ cs xs. Means M cs xs)
+    → Law s strict (listOf strict verdict r) (listCarrier K) (listShape K verdict G) (λ cs xs. Means M cs xs)
 unfolding listOf
 list-law {A} s strict verdict r K G M small law =
     record {
@@ -430,7 +430,7 @@ list-law {A} s strict verdict r K G M small law =
           let n = length ts in
           let same : length (map (K .content) ts) ≡ n = length-map ts (K .content) in
           let (few, good, each) = rw same at valid in
-          let inner = render-items K (G n) [] ts in
+          let inner = renderItems K (G n) [] ts in
           let body = inner ++ f .spare in
           let size = 8 + length body in
           let b₁ = spelled 4 (2 ^ 32 - size) in
@@ -459,7 +459,7 @@ list-law {A} s strict verdict r K G M small law =
     }
   where
     go : (end p : ℕ) (xs : List A) (q : ℕ) → Bytes s → end ≤ length s → (h : Step Head) → listHead verdict (take end s) p ≡ h
-        → listBody strict r (take end s) p h ≡ found xs q → Written s strict (list-carrier K) (list-shape K verdict G) (λ cs ys. Means M cs ys) end p xs q
+        → listBody strict r (take end s) p h ≡ found xs q → Written s strict (listCarrier K) (listShape K verdict G) (λ cs ys. Means M cs ys) end p xs q
     go end p xs q bytes inside (refused f) e reads = not-refused reads
     go end p xs q bytes inside (found h stop) e reads =
         let n = h .count in
@@ -480,8 +480,8 @@ means-map {f = f} (more {cs = cs} {xs = xs} {c = c} {x = x} m e) = map-append f 
 -- a list of record frames whose rows are read by a rule that may hang on the count
 pub records-law : {A C : Type 0} (s : List ℕ) (strict : Bool) (verdict : ℕ → ℕ) (r : ℕ → Rule A) (G : ℕ → Shape C C) (f : A → C) → length s < 2 ^ 31
     → ((n : ℕ) → Law s strict (r n) bare (G n) (λ c a. f a ≡ c))
-    → Law s strict (listOf strict verdict (λ n _. recordOf strict (r n))) (list-carrier (framed bare)) (list-shape (framed bare) verdict (λ n _. record-shape (G n))) (λ cs xs. map f xs ≡ cs)
+    → Law s strict (listOf strict verdict (λ n _. recordOf strict (r n))) (listCarrier (framed bare)) (listShape (framed bare) verdict (λ n _. recordShape (G n))) (λ cs xs. map f xs ≡ cs)
 records-law s strict verdict r G f small law =
     meant (λ cs xs m. means-map m)
-    (list-law s strict verdict (λ n _. recordOf strict (r n)) (framed bare) (λ n _. record-shape (G n)) (λ done c a. f a ≡ c) small
+    (list-law s strict verdict (λ n _. recordOf strict (r n)) (framed bare) (λ n _. recordShape (G n)) (λ done c a. f a ≡ c) small
     (λ n done before m. record-law s strict (r n) bare (G n) (λ c a. f a ≡ c) small (law n)))

@@ -14,7 +14,7 @@ use Rattle.numbers.specs.Numbers.{little}
 use Rattle.wire.specs.Reading.{Step, found, refused, Rule, after, _>>=_, give, here, number, judged, tested, string, ascii}
 use Rattle.wire.specs.declared.Fault.{Fault}
 use Rattle.tree.specs.Bytes.{spelled, Stands}
-use Rattle.tree.specs.Shape.{Carrier, Shape, Law, bare, number-shape, string-shape, chars, nothing-shape, NoVerdict, _▷_, then-shape, seen-shape, dressed, dressed-shape}
+use Rattle.tree.specs.Shape.{Carrier, Shape, Law, bare, numberShape, stringShape, chars, nothingShape, NoVerdict, _▷_, thenShape, seenShape, dressed, dressedShape}
 use Rattle.tree.proofs.Place.{length-spelled, stands-left, stands-right, stands-join, stands-none, stands-part, part-stands, little-spelled, little-bound, spelled-little, container-long, little-container, part-in}
 
 -- a choice between a step and a refusal that finds something took the step
@@ -36,7 +36,7 @@ judged-found verdict at (refused f) a q e = let z : _≡_ {A = ℕ} 0 1 = cc in 
 
 module _ (s : List ℕ) (strict : Bool) where
   -- a number
-  pub plain-law : (k : ℕ) → Law s strict (number k) bare (number-shape k NoVerdict) (λ n a. a ≡ n)
+  pub plain-law : (k : ℕ) → Law s strict (number k) bare (numberShape k NoVerdict) (λ n a. a ≡ n)
   unfolding number
   plain-law k =
       record {
@@ -65,7 +65,7 @@ module _ (s : List ℕ) (strict : Bool) where
 
   -- a number with a verdict, which the shape may put in other words
   pub number-law : (k : ℕ) (verdict verdict′ : ℕ → ℕ) → ((n : ℕ) → verdict n ≡ verdict′ n)
-      → Law s strict (tested k verdict) bare (number-shape k verdict′) (λ n a. a ≡ n)
+      → Law s strict (tested k verdict) bare (numberShape k verdict′) (λ n a. a ≡ n)
   unfolding judged
   number-law k verdict verdict′ same =
       record {
@@ -91,7 +91,7 @@ module _ (s : List ℕ) (strict : Bool) where
             };
       }
 
-  pub nothing-law : {A : Type 0} (x : A) (M : Unit {0} → A → Type 0) → M tt x → Law s strict (give x) bare nothing-shape M
+  pub nothing-law : {A : Type 0} (x : A) (M : Unit {0} → A → Type 0) → M tt x → Law s strict (give x) bare nothingShape M
   nothing-law x M m =
       record {
         complete = λ end p t inside valid plain stands fits. record { value = x; reads = rw (add-zero p) refl; means = m };
@@ -118,7 +118,7 @@ module _ (s : List ℕ) (strict : Bool) where
         sound = λ end p a q bytes some inside at reads. law p .sound end p a q bytes some inside at reads;
       }
 
-  pub string-law : length s < 2 ^ 31 → Law s strict string bare string-shape (λ cs a. chars s a ≡ cs)
+  pub string-law : length s < 2 ^ 31 → Law s strict string bare stringShape (λ cs a. chars s a ≡ cs)
   unfolding string
   string-law small =
       record {
@@ -172,7 +172,7 @@ after-found k s (refused f) b q e = let z : _≡_ {A = ℕ} 0 1 = cc in absurd (
 
 pub then-law : {A B T C U D : Type 0} (s : List ℕ) (strict : Bool) (R : Rule A) (k : A → Rule B) (K : Carrier T C) (L : Carrier U D) (S : Shape T C) (G : C → Shape U D) (M : C → A → Type 0) (N : C × D → B → Type 0)
     → Law s strict R K S M → ((c : C) (a : A) → M c a → Law s strict (k a) L (G c) (λ d b. N (c, d) b))
-    → Law s strict (R >>= k) (K ▷ L) (then-shape K S G) N
+    → Law s strict (R >>= k) (K ▷ L) (thenShape K S G) N
 then-law s strict R k K L S G M N first second =
     record {
       complete = λ end p t inside valid plain stands fits.
@@ -210,7 +210,7 @@ then-law s strict R k K L S G M N first second =
 -- the same where nothing is framed
 pub next : {A B T U : Type 0} {s : List ℕ} {strict : Bool} {R : Rule A} {k : A → Rule B} {S : Shape T T} {G : T → Shape U U} {M : T → A → Type 0} {N : T × U → B → Type 0}
     → Law s strict R bare S M → ((c : T) (a : A) → M c a → Law s strict (k a) bare (G c) (λ d b. N (c, d) b))
-    → Law s strict (R >>= k) bare (then-shape bare S G) N
+    → Law s strict (R >>= k) bare (thenShape bare S G) N
 next {s = s} {strict = strict} {R = R} {k = k} {S = S} {G = G} {M = M} {N = N} first second =
     let law = then-law s strict R k bare bare S G M N first second in
     record {
@@ -223,7 +223,7 @@ next {s = s} {strict = strict} {R = R} {k = k} {S = S} {G = G} {M = M} {N = N} f
 -- the same trees in another dress
 pub seen-law : {A T C : Type 0} {s : List ℕ} {strict : Bool} {R : Rule A} {S : Shape T T} {M : C → A → Type 0} (to : C → T) (from : T → C)
     → ((c : C) → from (to c) ≡ c) → ((t : T) → to (from t) ≡ t) → Law s strict R bare S (λ t a. M (from t) a)
-    → Law s strict R bare (seen-shape to S) M
+    → Law s strict R bare (seenShape to S) M
 seen-law {s = s} {R = R} {S = S} {M = M} to from there back law =
     record {
       complete = λ end p c inside valid plain stands fits.
@@ -246,7 +246,7 @@ seen-law {s = s} {R = R} {S = S} {M = M} to from there back law =
 -- the same of trees with frames
 pub dressed-law : {A T U C D : Type 0} {s : List ℕ} {strict : Bool} {R : Rule A} {K : Carrier U D} {S : Shape U D} {M : C → A → Type 0} (to : T → U) (from : U → T) (into : C → D) (back : D → C)
     → ((u : U) → to (from u) ≡ u) → ((d : D) → into (back d) ≡ d) → Law s strict R K S (λ d a. M (back d) a)
-    → Law s strict R (dressed to back K) (dressed-shape to into S) M
+    → Law s strict R (dressed to back K) (dressedShape to into S) M
 dressed-law {U = U} {C = C} {s = s} {strict = strict} {R = R} {K = K} {S = S} {M = M} to from into back there again law =
     record {
       complete = λ end p t inside valid plain stands fits.
@@ -269,7 +269,7 @@ dressed-law {U = U} {C = C} {s = s} {strict = strict} {R = R} {K = K} {S = S} {M
 -- the law of a sequence, its parts found from the laws of the first and the second
 pub follow : {A B T C U D : Type 0} {s : List ℕ} {strict : Bool} {R : Rule A} {k : A → Rule B} {K : Carrier T C} {L : Carrier U D} {S : Shape T C} {G : C → Shape U D} {M : C → A → Type 0} {N : C × D → B → Type 0}
     → Law s strict R K S M → ((c : C) (a : A) → M c a → Law s strict (k a) L (G c) (λ d b. N (c, d) b))
-    → Law s strict (R >>= k) (K ▷ L) (then-shape K S G) N
+    → Law s strict (R >>= k) (K ▷ L) (thenShape K S G) N
 follow {s = s} {strict = strict} {R = R} {k = k} {K = K} {L = L} {S = S} {G = G} {M = M} {N = N} first second = then-law s strict R k K L S G M N first second
 
 -- a value may be said to mean a content in other words

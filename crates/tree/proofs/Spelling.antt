@@ -8,8 +8,8 @@ use Rattle.numbers.specs.Numbers.{little}
 use Rattle.wire.specs.Reading.{found}
 use Rattle.header.specs.Tables.{headerOf}
 use Rattle.tree.specs.Bytes.{spelled, Stands}
-use Rattle.tree.specs.Shape.{Carrier, bare, framed, list-carrier, _▷_, dressed, All}
-use Rattle.tree.specs.HeaderTree.{header-carrier, texts-shape, payload-shape, header-content, frames, feature-words, lists-carrier, payload-tuple, tuple-payload, content-tuple, tuple-content, HeaderTree, render-header, tables-of, RightHeader}
+use Rattle.tree.specs.Shape.{Carrier, bare, framed, listCarrier, _▷_, dressed, All}
+use Rattle.tree.specs.HeaderTree.{headerCarrier, textsShape, payloadShape, headerContent, frames, featureWords, listsCarrier, payloadTuple, tuplePayload, contentTuple, tupleContent, HeaderTree, renderHeader, tablesOf, RightHeader}
 use Rattle.tree.specs.EnvelopeTree.{unsummed}
 use Rattle.tree.specs.Spelling.{Standard, OneSpelling}
 use Rattle.tree.proofs.Place.{little-spelled, stands-left}
@@ -39,7 +39,7 @@ each-determined K k (t ∷ ts) (u ∷ us) p q e =
     let tail : map (K .content) ts ≡ map (K .content) us = cc in
     λ i. k t u (p .0) (q .0) head i ∷ each-determined K k ts us (p .1) (q .1) tail i
 
-pub list-determined : {T C : Type 0} (K : Carrier T C) → Determined K → Determined (list-carrier K)
+pub list-determined : {T C : Type 0} (K : Carrier T C) → Determined K → Determined (listCarrier K)
 list-determined K k t u p q e = λ i. record { inside = each-determined K k (t .inside) (u .inside) (p .0) (q .0) e i; spare = (p .1 ∙ sym (q .1)) i }
 
 frames-determined : {C : Type 0} → Determined (frames {C = C})
@@ -52,17 +52,17 @@ dressed-determined to from into back K there again k t u p q e =
     let content : K .content (to t) ≡ K .content (to u) = sym (again (K .content (to t))) ∙ ap into e ∙ again (K .content (to u)) in
     sym (there t) ∙ ap from (k (to t) (to u) p q content) ∙ there u
 
-lists-determined : Determined lists-carrier
+lists-determined : Determined listsCarrier
 lists-determined =
     then-determined frames _ frames-determined
     (then-determined frames _ frames-determined
     (then-determined frames bare frames-determined bare-determined))
 
-header-determined : Determined header-carrier
+header-determined : Determined headerCarrier
 header-determined =
-    dressed-determined payload-tuple tuple-payload content-tuple tuple-content (bare ▷ lists-carrier ▷ bare) (λ t. refl) (λ d. refl)
+    dressed-determined payloadTuple tuplePayload contentTuple tupleContent (bare ▷ listsCarrier ▷ bare) (λ t. refl) (λ d. refl)
     (then-determined bare _ bare-determined
-    (then-determined lists-carrier bare lists-determined bare-determined))
+    (then-determined listsCarrier bare lists-determined bare-determined))
 
 -- what the bytes of a standard header say of its tree
 record Known (t : HeaderTree) : Type 0 where
@@ -70,32 +70,32 @@ record Known (t : HeaderTree) : Type 0 where
   minimum : t .minimum ≡ 1
   words : t .inside .words ≡ 0
 
-no-words : (s : List ℕ) (k : ℕ) → Stands s 4 (feature-words k) → little 8 s 4 ≡ 0 → k ≡ 0
-unfolding feature-words
+no-words : (s : List ℕ) (k : ℕ) → Stands s 4 (featureWords k) → little 8 s 4 ≡ 0 → k ≡ 0
+unfolding featureWords
 no-words s zero st z = refl
-no-words s (suc k) st z = absurd (omega (arith, little-spelled 8 (2 ^ 63) (omega arith) (stands-left (spelled 8 (2 ^ 63)) (feature-words k) st)))
+no-words s (suc k) st z = absurd (omega (arith, little-spelled 8 (2 ^ 63) (omega arith) (stands-left (spelled 8 (2 ^ 63)) (featureWords k) st)))
 
-known : (t : HeaderTree) → RightHeader t → Standard (render-header t) → Known t
-unfolding payload-shape texts-shape
+known : (t : HeaderTree) → RightHeader t → Standard (renderHeader t) → Known t
+unfolding payloadShape textsShape
 known t right std =
     let r = right .envelope in
-    let p = parts (λ _. payload-shape) t (render-header t) (r .version-fits) (omega (arith, r .version-fits, r .order)) (sealed-parts (unsummed (λ _. payload-shape) t) .stands) in
-    let all = stands-left (payload-shape .render (t .inside)) (t .spare) (p .payload) in
-    let front = stands-left (texts-shape .render (payload-tuple (t .inside) .0)) _ all in
+    let p = parts (λ _. payloadShape) t (renderHeader t) (r .versionFits) (omega (arith, r .versionFits, r .order)) (sealed-parts (unsummed (λ _. payloadShape) t) .stands) in
+    let all = stands-left (payloadShape .render (t .inside)) (t .spare) (p .payload) in
+    let front = stands-left (textsShape .render (payloadTuple (t .inside) .0)) _ all in
     record {
       version = sym (p .version) ∙ std .version;
       minimum = sym (p .minimum) ∙ std .minimum;
-      words = no-words (render-header t) (t .inside .words) (stands-left (feature-words (t .inside .words)) _ front) (std .single);
+      words = no-words (renderHeader t) (t .inside .words) (stands-left (featureWords (t .inside .words)) _ front) (std .single);
     }
 
-plain-tree : (t : HeaderTree) → RightHeader t → Known t → header-carrier .Plain (t .inside) × (t .spare ≡ [])
+plain-tree : (t : HeaderTree) → RightHeader t → Known t → headerCarrier .Plain (t .inside) × (t .spare ≡ [])
 plain-tree t right k = right .envelope .plain (eq-eqb (t .version) (t .minimum) (k .version ∙ sym (k .minimum)))
 
 -- standard trees with the same tables are the same
-same-tree : (t u : HeaderTree) → Known t → Known u → header-carrier .Plain (t .inside) × (t .spare ≡ [])
-    → header-carrier .Plain (u .inside) × (u .spare ≡ []) → tables-of t ≡ tables-of u → t ≡ u
+same-tree : (t u : HeaderTree) → Known t → Known u → headerCarrier .Plain (t .inside) × (t .spare ≡ [])
+    → headerCarrier .Plain (u .inside) × (u .spare ≡ []) → tablesOf t ≡ tablesOf u → t ≡ u
 same-tree t u k l p q same =
-    let content : header-carrier .content (t .inside) ≡ header-carrier .content (u .inside) = λ i. record { words = (k .words ∙ sym (l .words)) i; tables = same i } in
+    let content : headerCarrier .content (t .inside) ≡ headerCarrier .content (u .inside) = λ i. record { words = (k .words ∙ sym (l .words)) i; tables = same i } in
     λ i. record {
       version = (k .version ∙ sym (l .version)) i;
       minimum = (k .minimum ∙ sym (l .minimum)) i;
@@ -111,9 +111,9 @@ one-spelling e e′ h h′ q q′ bytes bytes′ reads reads′ std std′ =
     let k′ = known (w′ .tree) (w′ .right) (subst Standard (sym (w′ .bytes)) std′) in
     let p = plain-tree (w .tree) (w .right) k in
     let p′ = plain-tree (w′ .tree) (w′ .right) k′ in (
-      λ same. sym (w .bytes) ∙ ap render-header (same-tree (w .tree) (w′ .tree) k k′ p p′ (sym (w .means) ∙ same ∙ w′ .means)) ∙ w′ .bytes,
+      λ same. sym (w .bytes) ∙ ap renderHeader (same-tree (w .tree) (w′ .tree) k k′ p p′ (sym (w .means) ∙ same ∙ w′ .means)) ∙ w′ .bytes,
       λ same.
           let again : headerOf e ≡ found h′ q′ = ap headerOf same ∙ reads′ in
           let header : h ≡ h′ = cc (reads, again) in
-          λ i. header-content (same i) (header i),
+          λ i. headerContent (same i) (header i),
     )

@@ -15,9 +15,9 @@ use Rattle.page_list.specs.PageList.{pageListOf}
 use Rattle.page_list.specs.declared.PageRow.{PageRow}
 use Rattle.tree.specs.Bytes.{Bytes}
 use Rattle.tree.specs.Shape.{Framed}
-use Rattle.tree.specs.HeaderTree.{HeaderContent, header-content, Frames, HeaderTree, render-header}
-use Rattle.tree.specs.FooterTree.{LinkContent, ClusterContent, FooterTree, render-footer}
-use Rattle.tree.specs.PageListTree.{PageContent, PageListTree, render-page-list}
+use Rattle.tree.specs.HeaderTree.{HeaderContent, headerContent, Frames, HeaderTree, renderHeader}
+use Rattle.tree.specs.FooterTree.{LinkContent, ClusterContent, FooterTree, renderFooter}
+use Rattle.tree.specs.PageListTree.{PageContent, PageListTree, renderPageList}
 
 -- Headers.
 
@@ -31,11 +31,11 @@ pub record Standard (e : List ℕ) : Type 0 where
 abbrev pub OneSpelling : Type 0
 OneSpelling =
     (e e′ : List ℕ) (h h′ : Header) (q q′ : ℕ) → Bytes e → Bytes e′ → headerOf e ≡ found h q → headerOf e′ ≡ found h′ q′ → Standard e → Standard e′
-    → ((header-content e h ≡ header-content e′ h′) → (e ≡ e′)) × ((e ≡ e′) → (header-content e h ≡ header-content e′ h′))
+    → ((headerContent e h ≡ headerContent e′ h′) → (e ≡ e′)) × ((e ≡ e′) → (headerContent e h ≡ headerContent e′ h′))
 
 -- record frames without spare bytes
-abbrev pub plain-frames : {C : Type 0} → List C → Frames C
-plain-frames {C} cs = record { inside = map (λ (c : C). record { inside = c; spare = [] }) cs; spare = [] }
+abbrev pub plainFrames : {C : Type 0} → List C → Frames C
+plainFrames {C} cs = record { inside = map (λ (c : C). record { inside = c; spare = [] }) cs; spare = [] }
 
 -- the tree of tables in the standard spelling: version 1, minimum 1, one zero feature word, no spare bytes
 unfoldable pub standard : HeaderContent → HeaderTree
@@ -47,9 +47,9 @@ standard c =
         words = 0;
         name = c .name;
         description = c .description;
-        fields = plain-frames (c .fields);
-        columns = plain-frames (c .columns);
-        aliases = plain-frames (c .aliases);
+        fields = plainFrames (c .fields);
+        columns = plainFrames (c .columns);
+        aliases = plainFrames (c .aliases);
       };
       spare = [];
     }
@@ -58,9 +58,9 @@ standard c =
 pub record Respelled (e : List ℕ) (h : Header) : Type 0 where
   pub header : Header
   pub place : ℕ
-  pub reads : headerOf (render-header (standard (header-content e h))) ≡ found header place
-  pub same : header-content (render-header (standard (header-content e h))) header ≡ header-content e h
-  pub shorter : length (render-header (standard (header-content e h))) ≤ length e
+  pub reads : headerOf (renderHeader (standard (headerContent e h))) ≡ found header place
+  pub same : headerContent (renderHeader (standard (headerContent e h))) header ≡ headerContent e h
+  pub shorter : length (renderHeader (standard (headerContent e h))) ≤ length e
 
 -- it does so for any accepted header
 abbrev pub Respelling : Type 0
@@ -70,15 +70,15 @@ Respelling = (e : List ℕ) (h : Header) (q : ℕ) → Bytes e → headerOf e �
 
 -- the contents that rows are written as
 
-abbrev pub link-of : Link → LinkContent
-link-of l = record { size = l .size; stored = l .size; offset = l .offset }
+abbrev pub linkOf : Link → LinkContent
+linkOf l = record { size = l .size; stored = l .size; offset = l .offset }
 
-abbrev pub cluster-of : ClusterRow → ClusterContent
-cluster-of r = record { first = r .«first_entry»; entries = r .entries; link = link-of (r .«page_list») }
+abbrev pub clusterOf : ClusterRow → ClusterContent
+clusterOf r = record { first = r .«first_entry»; entries = r .entries; link = linkOf (r .«page_list») }
 
 -- the tree of tables beside a header with this checksum, in the standard spelling
-unfoldable pub standard-footer : ℕ → Footer → FooterTree
-standard-footer checksum f =
+unfoldable pub standardFooter : ℕ → Footer → FooterTree
+standardFooter checksum f =
     record {
       version = 1;
       minimum = 1;
@@ -87,8 +87,8 @@ standard-footer checksum f =
         checksum = checksum;
         extensions = record { inside = []; spare = [] };
         groups = record { inside = []; spare = [] };
-        clusters = plain-frames (map cluster-of (f .clusters));
-        metadata = record { inside = map link-of (f .metadata); spare = [] };
+        clusters = plainFrames (map clusterOf (f .clusters));
+        metadata = record { inside = map linkOf (f .metadata); spare = [] };
       };
       spare = [];
     }
@@ -97,24 +97,24 @@ standard-footer checksum f =
 abbrev pub FooterRespelling : Type 0
 FooterRespelling =
     (checksum file : ℕ) (f : List ℕ) (g : Footer) (p : ℕ) → Bytes f → footerOf checksum file f ≡ found g p
-    → (q : ℕ) × (footerOf checksum file (render-footer (standard-footer checksum g)) ≡ found g q) × (length (render-footer (standard-footer checksum g)) ≤ length f)
+    → (q : ℕ) × (footerOf checksum file (renderFooter (standardFooter checksum g)) ≡ found g q) × (length (renderFooter (standardFooter checksum g)) ≤ length f)
 
 -- Page lists.
 
 -- the content that a row is written as
-abbrev pub page-of : PageRow → PageContent
-page-of r = record { word = r .elements + 2 ^ 30 * bit (r .checksum); size = r .size; offset = r .offset }
+abbrev pub pageOf : PageRow → PageContent
+pageOf r = record { word = r .elements + 2 ^ 30 * bit (r .checksum); size = r .size; offset = r .offset }
 
 -- the pages of a column, without spare bytes
-abbrev pub plain-pages : List PageRow → Framed (List PageContent)
-plain-pages ps = record { inside = map page-of ps; spare = [] }
+abbrev pub plainPages : List PageRow → Framed (List PageContent)
+plainPages ps = record { inside = map pageOf ps; spare = [] }
 
 -- the tree of the pages of each column, in the standard spelling
-unfoldable pub standard-page-list : List (List PageRow) → PageListTree
-standard-page-list pss = record { version = 1; minimum = 1; inside = record { inside = map plain-pages pss; spare = [] }; spare = [] }
+unfoldable pub standardPageList : List (List PageRow) → PageListTree
+standardPageList pss = record { version = 1; minimum = 1; inside = record { inside = map plainPages pss; spare = [] }; spare = [] }
 
 -- the standard spelling of an accepted page list's table is accepted, gives the table back, and is no longer
 abbrev pub PageListRespelling : Type 0
 PageListRespelling =
     (h : Header) (entries file : ℕ) (l : List ℕ) (pss : List (List PageRow)) (p : ℕ) → Bytes l → pageListOf h entries file l ≡ found pss p
-    → (q : ℕ) × (pageListOf h entries file (render-page-list (standard-page-list pss)) ≡ found pss q) × (length (render-page-list (standard-page-list pss)) ≤ length l)
+    → (q : ℕ) × (pageListOf h entries file (renderPageList (standardPageList pss)) ≡ found pss q) × (length (renderPageList (standardPageList pss)) ≤ length l)
