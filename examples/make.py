@@ -1,0 +1,93 @@
+#!/usr/bin/env python3
+"""Writes the example envelopes beside this file."""
+
+import os
+import struct
+import zlib
+
+HERE = os.path.dirname(os.path.abspath(__file__))
+
+
+def envelope(payload, version=1, minimum=1):
+    content = struct.pack("<HH", version, minimum) + payload
+    return content + struct.pack("<I", zlib.crc32(content))
+
+
+def string(text):
+    return struct.pack("<I", len(text)) + text.encode("ascii")
+
+
+def record(content, spare=b""):
+    content += spare
+    return struct.pack("<i", 4 + len(content)) + content
+
+
+def items(members, spare=b""):
+    content = b"".join(members) + spare
+    return struct.pack("<iI", -(8 + len(content)), len(members)) + content
+
+
+def field(parent, role, name, type_name, flags=0, repetition=0, spare=b""):
+    content = struct.pack("<IIIHH", 0, 0, parent, role, flags)
+    if flags & 0x01:
+        content += struct.pack("<Q", repetition)
+    return record(content + string(name) + string(type_name) + string("") + string(""), spare)
+
+
+def column(column_type, bits, on_field, flags=0, spare=b""):
+    return record(struct.pack("<HHII", column_type, bits, on_field, flags), spare)
+
+
+def alias(physical_column, on_field, spare=b""):
+    return record(struct.pack("<II", physical_column, on_field), spare)
+
+
+FEATURES = struct.pack("<Q", 0)
+
+SMALLEST_HEADER = envelope(FEATURES + string("") + string("") + items([]) * 3)
+SMALLEST_FOOTER = envelope(FEATURES + SMALLEST_HEADER[-4:] + items([]) * 4)
+SMALLEST_PAGE_LIST = envelope(items([]))
+
+
+def fields_header(version, spare):
+    """Energies, a collection of hits, a fixed array, and an alias to the
+    energies. `spare` is what a newer writer has added to each frame."""
+    fields = [
+        field(0, 0, "energy", "float", spare=spare),
+        field(1, 1, "hits", "std::vector<std::int32_t>", spare=spare),
+        field(1, 0, "_0", "std::int32_t", spare=spare),
+        field(3, 0, "position", "std::array<double,3>", flags=0x01, repetition=3, spare=spare),
+        field(4, 0, "e", "float", flags=0x02, spare=spare),
+    ]
+    columns = [
+        column(0x11, 32, 0, spare=spare),
+        column(0x0F, 32, 1, spare=spare),
+        column(0x1B, 32, 2, spare=spare),
+        column(0x10, 64, 3, spare=spare),
+    ]
+    aliases = [alias(0, 4, spare=spare)]
+    payload = FEATURES + string("events") + string("an example")
+    payload += items(fields, spare) + items(columns, spare) + items(aliases, spare) + spare
+    return envelope(payload, version)
+
+
+def flipped(content, place):
+    return content[:place] + bytes([content[place] ^ 0x01]) + content[place + 1:]
+
+
+FIELDS_HEADER = fields_header(1, b"")
+
+EXAMPLES = {
+    "smallest.header": SMALLEST_HEADER,
+    "smallest.footer": SMALLEST_FOOTER,
+    "smallest.pagelist": SMALLEST_PAGE_LIST,
+    "fields.header": FIELDS_HEADER,
+    "newer.header": fields_header(2, b"new"),
+    "damaged.header": flipped(FIELDS_HEADER, 16),
+}
+
+if __name__ == "__main__":
+    for name, content in EXAMPLES.items():
+        with open(os.path.join(HERE, name), "wb") as file:
+            file.write(content)
+        print(f"{name}: {len(content)} bytes")

@@ -1,0 +1,176 @@
+/*
+ * Reading of RNTuple headers, footers and page lists, and decoding and
+ * encoding of pages. All memory is lent by the caller; nothing is kept
+ * between calls.
+ *
+ * Every pointer is followed by its number of elements (bytes for uint8_t,
+ * words for uint64_t). The lent memories of one call must not overlap, and no
+ * call writes outside of what it was lent.
+ *
+ * Answers. 0 is accepted. A refusal is envelope * 256 + number, the envelope
+ * being 1 header, 2 footer, 3 page list or 4 page, and the number:
+ *
+ *    1  envelope above 1,048,576 bytes
+ *    2  envelope below 8 bytes
+ *    3  checksum differs
+ *    4  minimum version 0, or above the version
+ *    5  minimum version above 1
+ *    6  feature bit set, other than bit 63
+ *    7  number, string or frame runs past its container
+ *    8  wrong frame kind, size below its own head, reserved bits set
+ *    9  string byte above 127
+ *   10  count above a ceiling
+ *   11  unexplained bytes after the last known content while version equals
+ *       minimum
+ *   12  role above 4, or a flag not listed
+ *   13  known column type with other bits
+ *   14  field or column number not below its count, or alias to a field
+ *       without flag 0x02
+ *   15  a parent chain never reaches a self-parented field
+ *   16  footer names another header checksum
+ *   17  extension header, column group, sharded flag, locator with bit 31
+ *       set, or stored size other than the uncompressed size
+ *   18  byte range not inside the file
+ *   19  entry or element counts disagree
+ *   20  lent room too small
+ *   21  page length wrong
+ *   22  page checksum differs
+ *   23  column type unknown, or Switch
+ *   24  unused bits of a Bit page set
+ *   25  element to encode does not fit its width
+ *
+ * Results. A call with result words writes all of them: the values named at
+ * the call when it accepts, zeros when it refuses. Words beyond those named
+ * are left alone. Where fewer words are lent than are named, the answer is
+ * RNT_RESULT_TOO_SHORT and nothing at all is written, no table either.
+ *
+ * Tables. Rows stand one after the other. A table has as many rows as fit
+ * into its words; left over words are never touched. A refusal changes no
+ * table, and on acceptance the rows beyond the count keep their contents.
+ */
+#ifndef RNTUPLE_CHECK_H
+#define RNTUPLE_CHECK_H
+
+#include <stddef.h>
+#include <stdint.h>
+
+#ifdef __cplusplus
+extern "C" {
+#endif
+
+/* The answer where the lent result is too short. */
+#define RNT_RESULT_TOO_SHORT 4294967295u
+
+/* The words of one row of each table. */
+#define RNT_FIELD_WORDS 15
+#define RNT_COLUMN_WORDS 4
+#define RNT_ALIAS_WORDS 2
+#define RNT_CLUSTER_WORDS 4
+#define RNT_LINK_WORDS 2
+#define RNT_PAGE_WORDS 5
+
+/* The most rows that an accepted envelope can have. */
+#define RNT_MOST_FIELDS 512
+#define RNT_MOST_COLUMNS 1024
+#define RNT_MOST_ALIASES 256
+#define RNT_MOST_CLUSTERS 1024
+#define RNT_MOST_LINKS 64
+#define RNT_MOST_PAGES 16384
+
+/* The most elements of one page call. */
+#define RNT_MOST_ELEMENTS 131072
+
+/*
+ * Reads a header. Refusals have envelope 1.
+ *
+ * Field row, 15 words: field version, type version, parent, role, flags,
+ * repetition (0 without flag 0x01), then place and length of the name, the
+ * type, the type alias and the description, then 1 when the field is dark (an
+ * unknown column hangs on it or on a field below it), else 0.
+ * Column row, 4 words: type, bits, field, flags.
+ * Alias row, 2 words: physical column, field.
+ * The place of a string is the offset of its first byte in the envelope.
+ *
+ * Result, 7 words: name place, name length, description place, description
+ * length, number of fields, number of columns, number of aliases.
+ */
+uint32_t rnt_read_header(const uint8_t *envelope, size_t envelope_length,
+                         uint64_t *fields, size_t field_words,
+                         uint64_t *columns, size_t column_words,
+                         uint64_t *aliases, size_t alias_words,
+                         uint64_t *result, size_t result_words);
+
+/*
+ * Reads a footer under its header, for a file of the given length. Refusals
+ * have envelope 1 where the header is refused, else 2.
+ *
+ * Cluster row, 4 words: first entry, entry count, size and offset of the link
+ * to its page list.
+ * Metadata row, 2 words: size and offset of the link.
+ *
+ * Result, 2 words: number of clusters, number of metadata links.
+ */
+uint32_t rnt_read_footer(const uint8_t *header, size_t header_length,
+                         const uint8_t *footer, size_t footer_length,
+                         uint64_t file_length,
+                         uint64_t *clusters, size_t cluster_words,
+                         uint64_t *metadata, size_t metadata_words,
+                         uint64_t *result, size_t result_words);
+
+/*
+ * Reads the page list of a cluster with the given number of entries, under
+ * its header, for a file of the given length. Refusals have envelope 1 where
+ * the header is refused, else 3.
+ *
+ * Page row, 5 words: column, elements, 1 when a checksum follows the page
+ * (else 0), size without that checksum, offset.
+ *
+ * Result, 1 word: number of pages.
+ */
+uint32_t rnt_read_page_list(const uint8_t *header, size_t header_length,
+                            const uint8_t *page_list, size_t page_list_length,
+                            uint64_t entries, uint64_t file_length,
+                            uint64_t *pages, size_t page_words,
+                            uint64_t *result, size_t result_words);
+
+/*
+ * Decodes a page into words[start] and the words after it, one word for each
+ * element: the element's own bits, zeros above; a signed element is its two's
+ * complement at its width. The page includes its checksum when one is asked
+ * for, which any value of checksum other than 0 does. A column type above
+ * 65535 is unknown. No word outside of that part is changed. Refusals have
+ * envelope 4 and change nothing.
+ */
+uint32_t rnt_decode_page(uint32_t column_type, uint64_t elements,
+                         uint32_t checksum,
+                         const uint8_t *page, size_t page_length,
+                         uint64_t *words, size_t word_count,
+                         uint64_t start);
+
+/*
+ * Encodes elements, taken from words[start] on, into the first bytes of the
+ * page room, followed by the checksum when one is asked for (any value of
+ * checksum other than 0). Bytes after those written are left alone. A column
+ * type above 65535 is unknown. Refusals have envelope 4 and change no byte of
+ * the room.
+ *
+ * Result, 1 word: bytes written, the checksum included.
+ */
+uint32_t rnt_encode_page(uint32_t column_type, uint64_t elements,
+                         uint32_t checksum,
+                         const uint64_t *words, size_t word_count,
+                         uint64_t start,
+                         uint8_t *page, size_t page_room,
+                         uint64_t *result, size_t result_words);
+
+/*
+ * The CRC-32 of envelopes and pages (reflected, polynomial EDB88320, start
+ * and final inversion FFFFFFFF). Of the digits 1 to 9 it is CBF43926.
+ */
+uint32_t rnt_crc32(const uint8_t *bytes, size_t length);
+
+#ifdef __cplusplus
+}
+#endif
+
+#endif

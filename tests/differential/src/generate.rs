@@ -1,0 +1,79 @@
+//! Seeded cases. A case depends on the seed, its kind and its number alone, so
+//! that each can be made again by itself.
+
+pub mod damage;
+pub mod edges;
+pub mod envelopes;
+pub mod models;
+pub mod pages;
+pub mod random;
+
+use crate::writer::Writer;
+use random::Random;
+
+/// The six kinds of cases.
+#[derive(Clone, Copy, Debug, PartialEq, Eq)]
+pub enum Kind {
+    Header,
+    Footer,
+    PageList,
+    Decode,
+    Encode,
+    Crc,
+}
+
+pub const KINDS: [Kind; 6] = [
+    Kind::Header,
+    Kind::Footer,
+    Kind::PageList,
+    Kind::Decode,
+    Kind::Encode,
+    Kind::Crc,
+];
+
+impl Kind {
+    pub fn name(self) -> &'static str {
+        match self {
+            Kind::Header => "header",
+            Kind::Footer => "footer",
+            Kind::PageList => "page-list",
+            Kind::Decode => "decode",
+            Kind::Encode => "encode",
+            Kind::Crc => "crc",
+        }
+    }
+}
+
+/// Large cases are dear, so that they come once in this many.
+pub const PERIOD: u64 = 8_192;
+
+pub struct Generator {
+    pub random: Random,
+    pub writer: Writer,
+    /// The place of the case in its period; the first ones are edge cases.
+    pub place: u64,
+}
+
+impl Generator {
+    pub fn new() -> Self {
+        Generator {
+            random: Random::new(0),
+            writer: Writer::default(),
+            place: 0,
+        }
+    }
+
+    /// Makes ready for a case.
+    pub fn begin(&mut self, seed: u64, kind: Kind, case: u64) {
+        let mut mixer = Random::new(seed ^ (kind as u64) << 56);
+        let own = mixer.next() ^ case.wrapping_mul(0xD6E8_FEB8_6659_FD93);
+        self.random = Random::new(own);
+        self.place = case % PERIOD;
+    }
+}
+
+impl Default for Generator {
+    fn default() -> Self {
+        Self::new()
+    }
+}

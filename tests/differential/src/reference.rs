@@ -1,0 +1,115 @@
+//! An independent implementation of the rules, written from their text alone.
+//! Each call returns the exported call's answer and result words.
+
+pub mod crc;
+pub mod envelope;
+pub mod footer;
+pub mod header;
+pub mod page_list;
+pub mod pages;
+
+#[cfg(test)]
+mod lines;
+
+/// The number of a refusal; which envelope it belongs to is known to the caller.
+pub type Number = u32;
+
+/// Number 0 is acceptance.
+pub const ACCEPTED: u32 = 0;
+
+/// A refusal of the given envelope as one word.
+pub fn refusal(envelope: u32, number: Number) -> u32 {
+    envelope * 256 + number
+}
+
+pub const HEADER: u32 = 1;
+pub const FOOTER: u32 = 2;
+pub const PAGE_LIST: u32 = 3;
+pub const PAGE: u32 = 4;
+
+/// Reads a header into flat tables.
+pub fn read_header(envelope: &[u8], fields: &mut [u64], columns: &mut [u64], aliases: &mut [u64]) -> (u32, [u64; 7]) {
+    match header::read(envelope).and_then(|header| {
+        header.store(fields, columns, aliases)?;
+        Ok(header)
+    }) {
+        Err(number) => (refusal(HEADER, number), [0; 7]),
+        Ok(header) => (
+            ACCEPTED,
+            [
+                header.name.place as u64,
+                header.name.length as u64,
+                header.description.place as u64,
+                header.description.length as u64,
+                header.fields.len() as u64,
+                header.columns.len() as u64,
+                header.aliases.len() as u64,
+            ],
+        ),
+    }
+}
+
+/// Reads a footer into flat tables, after its header.
+pub fn read_footer(
+    header: &[u8],
+    footer: &[u8],
+    file_length: u64,
+    clusters: &mut [u64],
+    metadata: &mut [u64],
+) -> (u32, [u64; 2]) {
+    let header = match header::read(header) {
+        Ok(header) => header,
+        Err(number) => return (refusal(HEADER, number), [0; 2]),
+    };
+    match footer::read(&header, footer, file_length).and_then(|footer| {
+        footer.store(clusters, metadata)?;
+        Ok(footer)
+    }) {
+        Err(number) => (refusal(FOOTER, number), [0; 2]),
+        Ok(footer) => (ACCEPTED, [footer.clusters.len() as u64, footer.metadata.len() as u64]),
+    }
+}
+
+/// Reads a page list into a flat table, after its header.
+pub fn read_page_list(
+    header: &[u8],
+    page_list: &[u8],
+    entries: u64,
+    file_length: u64,
+    pages: &mut [u64],
+) -> (u32, [u64; 1]) {
+    let header = match header::read(header) {
+        Ok(header) => header,
+        Err(number) => return (refusal(HEADER, number), [0; 1]),
+    };
+    match page_list::read(&header, page_list, entries, file_length).and_then(|list| {
+        page_list::store(&list, pages)?;
+        Ok(list.len() as u64)
+    }) {
+        Err(number) => (refusal(PAGE_LIST, number), [0; 1]),
+        Ok(count) => (ACCEPTED, [count]),
+    }
+}
+
+/// Decodes a page into `words` from `start` on.
+pub fn decode_page(column_type: u32, elements: u64, checksum: bool, page: &[u8], words: &mut [u64], start: u64) -> u32 {
+    match pages::decode(column_type, elements, checksum, page, words, start) {
+        Ok(()) => ACCEPTED,
+        Err(number) => refusal(PAGE, number),
+    }
+}
+
+/// Encodes a page from `words` at `start`; gives the bytes written.
+pub fn encode_page(
+    column_type: u32,
+    elements: u64,
+    checksum: bool,
+    words: &[u64],
+    start: u64,
+    page: &mut [u8],
+) -> (u32, [u64; 1]) {
+    match pages::encode(column_type, elements, checksum, words, start, page) {
+        Ok(written) => (ACCEPTED, [written as u64]),
+        Err(number) => (refusal(PAGE, number), [0]),
+    }
+}

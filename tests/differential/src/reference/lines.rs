@@ -1,0 +1,488 @@
+//! The listed cases on either side of the line, asked of the reference alone.
+
+use super::crc::crc32;
+use super::*;
+use crate::writer::{self, seal, stored_checksum, Writer};
+
+fn header_bytes(header: &writer::Header) -> Vec<u8> {
+    let mut writer = Writer::default();
+    writer.header(header);
+    writer.bytes
+}
+
+fn footer_bytes(footer: &writer::Footer) -> Vec<u8> {
+    let mut writer = Writer::default();
+    writer.footer(footer);
+    writer.bytes
+}
+
+fn page_list_bytes(page_list: &writer::PageList) -> Vec<u8> {
+    let mut writer = Writer::default();
+    writer.page_list(page_list);
+    writer.bytes
+}
+
+fn smallest_header() -> Vec<u8> {
+    header_bytes(&writer::Header::default())
+}
+
+/// The answer with full tables.
+fn header_answer(envelope: &[u8]) -> u32 {
+    read_header(
+        envelope,
+        &mut vec![0; 512 * 15],
+        &mut vec![0; 1024 * 4],
+        &mut vec![0; 256 * 2],
+    )
+    .0
+}
+
+fn footer_answer(footer: &writer::Footer, file_length: u64) -> u32 {
+    let header = smallest_header();
+    let footer = writer::Footer {
+        header_checksum: stored_checksum(&header),
+        ..footer.clone()
+    };
+    let footer = footer_bytes(&footer);
+    read_footer(
+        &header,
+        &footer,
+        file_length,
+        &mut vec![0; 1024 * 4],
+        &mut vec![0; 64 * 2],
+    )
+    .0
+}
+
+fn page_list_answer(header: &writer::Header, list: &writer::PageList, entries: u64, file_length: u64) -> u32 {
+    let (header, list) = (header_bytes(header), page_list_bytes(list));
+    read_page_list(&header, &list, entries, file_length, &mut vec![0; 16_384 * 5]).0
+}
+
+fn fields(parents: &[u32]) -> writer::Header {
+    let mut header = writer::Header::default();
+    header.fields.items = parents
+        .iter()
+        .map(|&parent| writer::Field {
+            parent,
+            ..Default::default()
+        })
+        .collect();
+    header
+}
+
+/// The smallest header with its field list's head written over, checksum right.
+fn with_list_head(size: u32, count: u32) -> Vec<u8> {
+    let mut bytes = smallest_header();
+    bytes[20..24].copy_from_slice(&size.to_le_bytes());
+    bytes[24..28].copy_from_slice(&count.to_le_bytes());
+    seal(&mut bytes);
+    bytes
+}
+
+fn encoded(column_type: u32, words: &[u64]) -> Vec<u8> {
+    let mut room = [0xA5; 256];
+    let (answer, [written]) = encode_page(column_type, words.len() as u64, false, words, 0, &mut room);
+    assert_eq!(answer, 0);
+    assert!(room[written as usize..].iter().all(|&byte| byte == 0xA5));
+    room[..written as usize].to_vec()
+}
+
+fn decoded(column_type: u32, elements: u64, page: &[u8]) -> Result<Vec<u64>, u32> {
+    let mut words = vec![7; elements as usize];
+    match decode_page(column_type, elements, false, page, &mut words, 0) {
+        0 => Ok(words),
+        answer => {
+            assert!(words.iter().all(|&word| word == 7));
+            Err(answer)
+        }
+    }
+}
+
+#[test]
+fn check_value_of_the_checksum() {
+    assert_eq!(crc32(b"123456789"), 0xCBF4_3926);
+    assert_eq!(crc32(b""), 0);
+    // The sliced loop against the definition, bit by bit.
+    let bytes: Vec<u8> = (0..200u32).map(|i| (i * i * 7 + i) as u8).collect();
+    for length in 0..bytes.len() {
+        let mut rest = !0u32;
+        for &byte in &bytes[..length] {
+            rest ^= u32::from(byte);
+            for _ in 0..8 {
+                rest = if rest & 1 == 1 {
+                    (rest >> 1) ^ 0xEDB8_8320
+                } else {
+                    rest >> 1
+                };
+            }
+        }
+        assert_eq!(crc32(&bytes[..length]), !rest);
+    }
+}
+
+#[test]
+fn frames() {
+    assert_eq!(header_answer(&with_list_head(0xFFFF_FFF8, 0)), 0);
+    assert_eq!(header_answer(&with_list_head(0xFFFF_FFFC, 0)), 256 + 8);
+    assert_eq!(header_answer(&with_list_head(0x8000_0000, 0)), 256 + 7);
+    assert_eq!(header_answer(&with_list_head(0x0000_0008, 0)), 256 + 8);
+    assert_eq!(header_answer(&with_list_head(0xFFFF_FFF8, 0x1000_0000)), 256 + 8);
+    assert_eq!(header_answer(&with_list_head(0xFFFF_FFF8, 513)), 256 + 10);
+    assert_eq!(header_answer(&with_list_head(0xFFFF_FFF8, 1)), 256 + 7);
+
+    // An empty record is a record, in which the first number is missing.
+    let mut header = header_bytes(&fields(&[0]));
+    for (size, number) in [(3u32, 8), (4, 7), (0xFFFF_FFF8, 8), (0x8000_0000, 8), (0x7FFF_FFFF, 7)] {
+        header[28..32].copy_from_slice(&size.to_le_bytes());
+        seal(&mut header);
+        assert_eq!(header_answer(&header), 256 + number, "size {size:08X}");
+    }
+}
+
+#[test]
+fn zigzag() {
+    for (element, stored) in [(0i16, 0u16), (-1, 1), (1, 2), (32767, 65534), (-32768, 65535)] {
+        let word = u64::from(element as u16);
+        assert_eq!(encoded(0x1C, &[word]), stored.to_le_bytes());
+        assert_eq!(decoded(0x1C, 1, &stored.to_le_bytes()), Ok(vec![word]));
+    }
+    for element in [i64::MIN, -1, 0, 1, i64::MAX] {
+        let stored = if element >= 0 {
+            2 * i128::from(element)
+        } else {
+            -(2 * i128::from(element) + 1)
+        } as u64;
+        assert_eq!(encoded(0x1A, &[element as u64]), stored.to_le_bytes());
+    }
+}
+
+#[test]
+fn delta() {
+    let page = [1, 0, 2, 0, 0, 0, 0, 0, 0, 0, 0, 0];
+    assert_eq!(encoded(0x0F, &[1, 1, 3]), page);
+    assert_eq!(decoded(0x0F, 3, &page), Ok(vec![1, 1, 3]));
+
+    let page = [5, 0xFE, 0, 0xFF, 0, 0xFF, 0, 0xFF];
+    assert_eq!(encoded(0x0F, &[5, 3]), page);
+    assert_eq!(decoded(0x0F, 2, &page), Ok(vec![5, 3]));
+}
+
+#[test]
+fn split() {
+    assert_eq!(encoded(0x15, &[0x1234, 0xABCD]), [0x34, 0xCD, 0x12, 0xAB]);
+    assert_eq!(decoded(0x15, 2, &[0x34, 0xCD, 0x12, 0xAB]), Ok(vec![0x1234, 0xABCD]));
+}
+
+#[test]
+fn bits() {
+    let words = [1, 0, 0, 0, 0, 0, 0, 0, 1];
+    assert_eq!(encoded(0x06, &words), [1, 1]);
+    assert_eq!(decoded(0x06, 9, &[1, 1]), Ok(words.to_vec()));
+    assert_eq!(decoded(0x06, 9, &[1, 3]), Err(4 * 256 + 24));
+}
+
+#[test]
+fn every_type_comes_back() {
+    let numbers = [
+        0,
+        1,
+        0x7F,
+        0x80,
+        0xFF,
+        0x1234,
+        0x8000,
+        0xFFFF,
+        0x8000_0000,
+        0xFFFF_FFFF,
+        1 << 63,
+        u64::MAX,
+        0x0123_4567_89AB_CDEF,
+    ];
+    for column_type in 0..40 {
+        let words: Vec<u64> = match pages::stored_bits(column_type) {
+            Some(bits) if bits <= 64 => numbers
+                .iter()
+                .map(|number| number & (u64::MAX >> (64 - bits)))
+                .collect(),
+            _ => {
+                let answer = decode_page(column_type, 0, false, &[], &mut [], 0);
+                assert_eq!(answer, 4 * 256 + 23);
+                continue;
+            }
+        };
+        let page = encoded(column_type, &words);
+        assert_eq!(decoded(column_type, words.len() as u64, &page), Ok(words));
+    }
+}
+
+#[test]
+fn page_calls() {
+    let mut words = [9u64; 4];
+    // Right length, then checksum, then room, each the first that applies.
+    let mut page = vec![1, 2, 3];
+    page.extend_from_slice(&crc32(&[1, 2, 3]).to_le_bytes());
+    assert_eq!(decode_page(0x05, 3, true, &page, &mut words, 1), 0);
+    assert_eq!(words, [9, 1, 2, 3]);
+    assert_eq!(decode_page(0x05, 3, false, &page, &mut words, 0), 4 * 256 + 21);
+    page[0] = 0;
+    assert_eq!(decode_page(0x05, 3, true, &page, &mut words, 9), 4 * 256 + 22);
+    assert_eq!(decode_page(0x05, 3, false, &page[..3], &mut words, 2), 4 * 256 + 20);
+    assert_eq!(decode_page(0x05, 0, false, &[], &mut words, 4), 0);
+    assert_eq!(decode_page(0x05, 0, false, &[], &mut words, 5), 4 * 256 + 20);
+    assert_eq!(decode_page(0x05, 1, false, &[0], &mut words, u64::MAX), 4 * 256 + 20);
+    assert_eq!(decode_page(0x05, 131_073, false, &[], &mut words, 0), 4 * 256 + 10);
+    assert_eq!(decode_page(0x05, 131_072, false, &[], &mut words, 0), 4 * 256 + 21);
+    assert_eq!(decode_page(0x0001_0005, 0, false, &[], &mut words, 0), 4 * 256 + 23);
+    assert_eq!(words, [9, 1, 2, 3]);
+
+    let mut room = [7u8; 8];
+    assert_eq!(
+        encode_page(0x05, 4, true, &words, 0, &mut room[..7]),
+        (4 * 256 + 20, [0])
+    );
+    assert_eq!(
+        encode_page(0x05, 4, true, &[1, 2, 3, 256], 0, &mut room),
+        (4 * 256 + 25, [0])
+    );
+    assert_eq!(encode_page(0x05, 4, true, &words, 1, &mut room), (4 * 256 + 20, [0]));
+    assert_eq!(room, [7; 8]);
+    assert_eq!(encode_page(0x05, 2, true, &words, 1, &mut room), (0, [6]));
+    assert_eq!(room[..2], [1, 2]);
+    assert_eq!(room[2..6], crc32(&[1, 2]).to_le_bytes());
+    assert_eq!(room[6..], [7; 2]);
+}
+
+#[test]
+fn smallest() {
+    let header = smallest_header();
+    let checksum = stored_checksum(&header);
+    let footer = footer_bytes(&writer::Footer {
+        header_checksum: checksum,
+        ..Default::default()
+    });
+    let page_list = page_list_bytes(&writer::PageList::default());
+    assert_eq!((header.len(), footer.len(), page_list.len()), (48, 52, 16));
+    assert_eq!(
+        read_header(&header, &mut [], &mut [], &mut []),
+        (0, [16, 0, 20, 0, 0, 0, 0])
+    );
+    assert_eq!(read_footer(&header, &footer, 0, &mut [], &mut []), (0, [0, 0]));
+    assert_eq!(read_page_list(&header, &page_list, 0, 0, &mut []), (0, [0]));
+    assert_eq!(read_header(&[], &mut [], &mut [], &mut []), (256 + 2, [0; 7]));
+}
+
+#[test]
+fn parents() {
+    assert_eq!(header_answer(&header_bytes(&fields(&[1, 0]))), 256 + 15);
+    assert_eq!(header_answer(&header_bytes(&fields(&[0]))), 0);
+    assert_eq!(header_answer(&header_bytes(&fields(&[1]))), 256 + 14);
+    // Parents later in the list.
+    assert_eq!(header_answer(&header_bytes(&fields(&[1, 2, 2]))), 0);
+    // A chain that runs into a cycle without being part of it.
+    assert_eq!(header_answer(&header_bytes(&fields(&[0, 2, 3, 2]))), 256 + 15);
+}
+
+#[test]
+fn dark_fields() {
+    let mut header = fields(&[0, 0, 1, 3]);
+    header.columns.items = vec![writer::Column {
+        column_type: 0x1D,
+        bits: 5,
+        field: 2,
+        ..Default::default()
+    }];
+    let mut table = vec![0; 4 * 15];
+    let (answer, _) = read_header(&header_bytes(&header), &mut table, &mut [0; 4], &mut []);
+    assert_eq!(answer, 0);
+    let dark: Vec<u64> = table.chunks(15).map(|row| row[14]).collect();
+    assert_eq!(dark, [1, 1, 1, 0]);
+}
+
+#[test]
+fn ceilings() {
+    assert_eq!(header_answer(&header_bytes(&fields(&[0; 512]))), 0);
+    assert_eq!(header_answer(&header_bytes(&fields(&[0; 513]))), 256 + 10);
+
+    let mut header = fields(&[0]);
+    header.fields.items[0].flags = 0x02;
+    let column = writer::Column {
+        column_type: 0x06,
+        bits: 1,
+        ..Default::default()
+    };
+    header.columns.items = vec![column; 1024];
+    header.aliases.items = vec![writer::Alias::default(); 256];
+    assert_eq!(header_answer(&header_bytes(&header)), 0);
+    header.aliases.items.push(writer::Alias::default());
+    assert_eq!(header_answer(&header_bytes(&header)), 256 + 10);
+    header.columns.items.push(column);
+    assert_eq!(header_answer(&header_bytes(&header)), 256 + 10);
+
+    let mut footer = writer::Footer::default();
+    footer.clusters.items = vec![writer::Cluster::default(); 1024];
+    footer.metadata.items = vec![writer::Link::default(); 64];
+    assert_eq!(footer_answer(&footer, 0), 0);
+    footer.metadata.items.push(writer::Link::default());
+    assert_eq!(footer_answer(&footer, 0), 512 + 10);
+    footer.metadata.items.clear();
+    footer.clusters.items.push(writer::Cluster::default());
+    assert_eq!(footer_answer(&footer, 0), 512 + 10);
+
+    let mut header = fields(&[0]);
+    header.columns.items = vec![column; 2];
+    let mut list = writer::PageList::default();
+    let pages = |count| writer::List {
+        items: vec![writer::Page::default(); count],
+        spare: 0,
+    };
+    list.columns.items = vec![pages(1), pages(16_383)];
+    assert_eq!(page_list_answer(&header, &list, 0, 0), 0);
+    list.columns.items[0] = pages(2);
+    assert_eq!(page_list_answer(&header, &list, 0, 0), 768 + 10);
+    list.columns.items.pop();
+    assert_eq!(page_list_answer(&header, &list, 0, 0), 768 + 19);
+
+    let mut header = writer::Header {
+        name: vec![b'n'; 1_048_576 - 48],
+        ..Default::default()
+    };
+    assert_eq!(header_answer(&header_bytes(&header)), 0);
+    header.name.push(b'n');
+    assert_eq!(header_answer(&header_bytes(&header)), 256 + 1);
+}
+
+#[test]
+fn ranges() {
+    let mut footer = writer::Footer::default();
+    let at = |size, offset| writer::Link { size, offset };
+    for (link, file_length, number) in [
+        (at(10, 90), 100, 0),
+        (at(10, 91), 100, 18),
+        (at(0, 100), 100, 0),
+        (at(0, 101), 100, 18),
+        (at(1, u64::MAX - 1), u64::MAX, 0),
+        (at(1, u64::MAX), u64::MAX, 18),
+        (at(2, u64::MAX), 10, 18),
+    ] {
+        footer.metadata.items = vec![link];
+        let expected = if number == 0 { 0 } else { refusal(FOOTER, number) };
+        assert_eq!(footer_answer(&footer, file_length), expected);
+    }
+}
+
+#[test]
+fn entry_counts() {
+    let mut footer = writer::Footer::default();
+    let cluster = |first, entries| writer::Cluster {
+        first,
+        entries,
+        ..Default::default()
+    };
+    for (clusters, number) in [
+        (vec![cluster(0, 5), cluster(5, 0), cluster(5, 1)], 0),
+        (vec![cluster(1, 5)], 19),
+        (vec![cluster(0, (1 << 60) - 1), cluster((1 << 60) - 1, 0)], 0),
+        (vec![cluster(0, (1 << 60) - 1), cluster((1 << 60) - 1, 1)], 19),
+        (vec![cluster(0, 1 << 60 | 1 << 61)], 17),
+        (vec![cluster(0, 1 << 61)], 12),
+    ] {
+        footer.clusters.items = clusters;
+        let expected = if number == 0 { 0 } else { refusal(FOOTER, number) };
+        assert_eq!(footer_answer(&footer, 0), expected);
+    }
+}
+
+#[test]
+fn page_list_totals() {
+    let mut header = fields(&[0, 0]);
+    let column = |column_type, bits, field| writer::Column {
+        column_type,
+        bits,
+        field,
+        ..Default::default()
+    };
+    header.columns.items = vec![column(0x03, 96, 1), column(0x02, 32, 0), column(0x06, 1, 0)];
+    let page = |elements, size| writer::Page {
+        elements,
+        size,
+        ..Default::default()
+    };
+    let mut list = writer::PageList::default();
+    let pages = |items: Vec<writer::Page>| writer::List { items, spare: 0 };
+    list.columns.items = vec![
+        pages(vec![page(1, 12)]),
+        pages(vec![page(3, 12), page(2, 8)]),
+        pages(vec![page(9, 2)]),
+    ];
+    assert_eq!(page_list_answer(&header, &list, 5, 12), 0);
+    assert_eq!(page_list_answer(&header, &list, 6, 12), 768 + 19);
+    assert_eq!(page_list_answer(&header, &list, 5, 11), 768 + 18);
+    header.fields.items[0].flags = 0x01;
+    assert_eq!(page_list_answer(&header, &list, 6, 12), 0);
+    header.fields.items[0].flags = 0;
+    header.columns.items[1] = column(0x00, 32, 0);
+    assert_eq!(page_list_answer(&header, &list, 6, 12), 0);
+    list.columns.items[2].items[0].size = 1;
+    assert_eq!(page_list_answer(&header, &list, 6, 12), 768 + 17);
+}
+
+#[test]
+fn spare_bytes() {
+    let mut header = writer::Header::default();
+    header.outside.spare = 1;
+    assert_eq!(header_answer(&header_bytes(&header)), 256 + 11);
+    header.outside.version = 2;
+    assert_eq!(header_answer(&header_bytes(&header)), 0);
+    header.outside.minimum = 2;
+    assert_eq!(header_answer(&header_bytes(&header)), 256 + 5);
+    header.outside.minimum = 3;
+    assert_eq!(header_answer(&header_bytes(&header)), 256 + 4);
+    header.outside.minimum = 0;
+    assert_eq!(header_answer(&header_bytes(&header)), 256 + 4);
+}
+
+#[test]
+fn small_rooms() {
+    let header = header_bytes(&fields(&[0, 1]));
+    let mut table = [3u64; 30];
+    assert_eq!(
+        read_header(&header, &mut table[..29], &mut [], &mut []),
+        (256 + 20, [0; 7])
+    );
+    assert_eq!(table, [3; 30]);
+    assert_eq!(read_header(&header, &mut table, &mut [], &mut []).0, 0);
+}
+
+/// The example files were written by another program.
+#[test]
+fn examples() {
+    let header = include_bytes!("../../../../examples/smallest.header");
+    let footer = include_bytes!("../../../../examples/smallest.footer");
+    let page_list = include_bytes!("../../../../examples/smallest.pagelist");
+    assert_eq!(header[..], smallest_header()[..]);
+    assert_eq!(read_footer(header, footer, 0, &mut [], &mut []), (0, [0, 0]));
+    assert_eq!(read_page_list(header, page_list, 0, 0, &mut []), (0, [0]));
+
+    let read = |envelope: &[u8]| {
+        let (mut fields, mut columns, mut aliases) = (vec![0; 5 * 15], vec![0; 4 * 4], vec![0; 2]);
+        let (answer, result) = read_header(envelope, &mut fields, &mut columns, &mut aliases);
+        let text = |place: u64, length: u64| envelope[place as usize..][..length as usize].to_vec();
+        let mut names = vec![text(result[0], result[1]), text(result[2], result[3])];
+        for row in fields.chunks_exact_mut(15) {
+            for string in row[6..14].chunks_exact_mut(2) {
+                names.push(text(string[0], string[1]));
+                string[0] = 0;
+            }
+        }
+        (answer, result[4..].to_vec(), names, fields, columns, aliases)
+    };
+    let fields = read(include_bytes!("../../../../examples/fields.header"));
+    assert_eq!((fields.0, &fields.1[..]), (0, &[5, 4, 1][..]));
+    assert_eq!(fields.2[0], b"events");
+    assert_eq!(fields, read(include_bytes!("../../../../examples/newer.header")));
+    assert_eq!(
+        header_answer(include_bytes!("../../../../examples/damaged.header")),
+        256 + 3
+    );
+}
