@@ -4,10 +4,11 @@ use mathlib.Core.List.{List, [], _∷_}
 use mathlib.Core.Bool.{Bool}
 use lib.ListN.{length}
 use lib.Dec.{ltb, eqb}
-use Rattle.wire.specs.Reading.{Step, Rule, _>>=_, _>>_, give, tested, unless, number, recordOf, listOf, atMost}
+use Rattle.wire.specs.Reading.{Step, Rule, _>>=_, _>>_, give, tested, unless, number, recordOf, items, listOf, atMost}
 use Rattle.wire.specs.Locator.{storedAs, inFile}
 use Rattle.wire.specs.Envelope.{envelope}
 use Rattle.wire.specs.Features.{features}
+use Rattle.wire.specs.declared.ListHead.{ListHead}
 use Rattle.footer.specs.declared.Link.{Link}
 use Rattle.footer.specs.declared.ClusterRow.{ClusterRow}
 
@@ -60,6 +61,14 @@ unfoldable pub entriesOf : List ClusterRow → ℕ
 entriesOf [] = 0
 entriesOf (c ∷ cs) = c .entries + entriesOf cs
 
+-- the items of a list at `list`, whose head was read
+
+abbrev pub clusterItems : List ℕ → Bool → ℕ → ListHead → ℕ → Step (List ClusterRow)
+clusterItems s strict list h file = items list (λ before. recordOf strict (cluster file (entriesOf before))) (h .count) [] s (h .start)
+
+abbrev pub linkItems : List ℕ → ℕ → ListHead → ℕ → Step (List Link)
+linkItems s list h file = items list (λ _. link file) (h .count) [] s (h .start)
+
 -- the list of clusters
 abbrev pub clusterList : Bool → ℕ → Rule (List ClusterRow)
 clusterList strict file = listOf strict (atMost 1024) (λ _ before. recordOf strict (cluster file (entriesOf before)))
@@ -68,16 +77,25 @@ clusterList strict file = listOf strict (atMost 1024) (λ _ before. recordOf str
 abbrev pub linkList : Bool → ℕ → Rule (List Link)
 linkList strict file = listOf strict (atMost 64) (λ _ _. link file)
 
--- the payload of a footer whose header has this checksum, in a file of `file` bytes
-unfoldable pub payload : ℕ → ℕ → Bool → Rule Footer
-payload checksum file strict s = (do
+-- the rest of a payload, after what stands before the clusters
+abbrev pub afterOpening : {A : Type 0} → ℕ → Bool → Rule A → Rule A
+afterOpening checksum strict rest s = (do
   features (length s)
   tested 4 (names checksum)
   empty strict
   empty strict
+  rest) s
+
+-- what stands before the clusters alone
+abbrev pub opening : ℕ → Bool → Rule (Unit {0})
+opening checksum strict = afterOpening checksum strict (give tt)
+
+-- the payload of a footer whose header has this checksum, in a file of `file` bytes
+unfoldable pub payload : ℕ → ℕ → Bool → Rule Footer
+payload checksum file strict = afterOpening checksum strict (do
   clusters ← clusterList strict file
   metadata ← linkList strict file
-  give (record { clusters = clusters; metadata = metadata })) s
+  give (record { clusters = clusters; metadata = metadata }))
 
 -- the footer that an envelope is beside a header with this checksum, or its refusal; room is not asked for here
 unfoldable pub footerOf : ℕ → ℕ → List ℕ → Step Footer

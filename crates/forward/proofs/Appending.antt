@@ -13,12 +13,14 @@ use Rattle.numbers.specs.Choice.{both}
 use Rattle.wire.specs.Reading.{unless, found}
 use Rattle.numbers.specs.Rows.{flat, over}
 use Rattle.column_type.specs.Types.{known}
-use Rattle.header.specs.Header.{Header, aliased}
+use Rattle.header.specs.Header.{Header}
+use Rattle.records.specs.Records.{aliased}
 use Rattle.header.specs.Parents.{allReach}
-use Rattle.header.specs.Tables.{headerOf, dark, columnWords, aliasWords, roomFor}
-use Rattle.header.specs.declared.FieldHead.{FieldHead}
-use Rattle.header.specs.declared.ColumnRow.{ColumnRow}
-use Rattle.header.specs.declared.AliasRow.{AliasRow}
+use Rattle.header.specs.Tables.{headerOf, dark, roomFor}
+use Rattle.records.specs.Words.{columnWords, aliasWords}
+use Rattle.records.specs.declared.FieldHead.{FieldHead}
+use Rattle.records.specs.declared.ColumnRow.{ColumnRow}
+use Rattle.records.specs.declared.AliasRow.{AliasRow}
 use Rattle.header.specs.declared.HeaderTables.{HeaderTables}
 use Rattle.tree.specs.Shape.{chars, Shape, Framed, All, ValidItems, recordShape}
 use Rattle.tree.specs.HeaderTree.{FieldContent, HeaderContent, PayloadContent, headShape, fieldShape, columnShape, aliasShape, flagsIn, parentsIn, fieldContent, headerContent, listsShape, payloadShape, headerCarrier, HeaderTree, renderHeader, tablesOf, RightHeader}

@@ -10,8 +10,9 @@ use Rattle.numbers.specs.Choice.{pick}
 use Rattle.wire.specs.Reading.{Step, found, refused}
 use Rattle.numbers.specs.Rows.{flat, flatBy, over}
 use Rattle.header.specs.Header.{Lists, Header}
-use Rattle.header.specs.Tables.{headerOf, parentsOf, dark, bit, fieldWords, columnWords, aliasWords, fieldTable, columnTable, aliasTable, roomFor, answer, written, Answered}
-use Rattle.header.specs.declared.FieldRow.{FieldRow}
+use Rattle.header.specs.Tables.{headerOf, parentsOf, dark, bit, fieldTable, columnTable, aliasTable, roomFor, answer, written, Answered}
+use Rattle.records.specs.Words.{fieldWords, columnWords, aliasWords}
+use Rattle.records.specs.declared.FieldRow.{FieldRow}
 use Rattle.header.specs.declared.HeaderTables.{HeaderTables}
 use Rattle.header.specs.declared.HeaderAnswer.{HeaderAnswer}
 use Rattle.header.specs.declared.HeaderAnswer.the-variants.{Accepted, Refused}

@@ -10,7 +10,8 @@ use Rattle.wire.specs.Reading.{found, recordOf, listOf, items, number, judged, 
 use Rattle.wire.specs.Envelope.{versioned, opened}
 use Rattle.wire.specs.Features.{features}
 use Rattle.column_type.specs.Types.{known, widthOf, widths}
-use Rattle.header.specs.Header.{repetition, fieldHead, fieldTexts, field, column, alias, columnsAfter, aliasesAfter, lists, texts, payload}
+use Rattle.header.specs.Header.{columnsAfter, aliasesAfter, lists, payload}
+use Rattle.records.specs.Records.{repetition, fieldHead, fieldTexts, field, column, alias, texts}
 use Rattle.header.specs.Parents.{meets, allReach}
 use Rattle.header.specs.Tables.{headerOf, chained}
 use Rattle.tree.specs.Bytes.{spelled}

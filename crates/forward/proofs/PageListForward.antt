@@ -12,8 +12,8 @@ use Rattle.wire.specs.Envelope.{ceiling, envelope}
 use Rattle.header.specs.Header.{Header}
 use Rattle.header.specs.Tables.{headerOf}
 use Rattle.header.specs.Beside.{Beside, read, refusal}
-use Rattle.header.specs.declared.FieldRow.{FieldRow}
-use Rattle.header.specs.declared.ColumnRow.{ColumnRow}
+use Rattle.records.specs.declared.FieldRow.{FieldRow}
+use Rattle.records.specs.declared.ColumnRow.{ColumnRow}
 use Rattle.page_list.specs.PageList.{bitsOf, payload, totalOf, totals, summed, pageListOf}
 use Rattle.page_list.specs.Tables.{pageListBeside, answer, written}
 use Rattle.page_list.specs.declared.PageRow.{PageRow}

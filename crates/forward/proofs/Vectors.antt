@@ -11,10 +11,12 @@ use Rattle.wire.specs.Envelope.{versioned, opened, checksumOf}
 use Rattle.wire.specs.declared.Kind.the-variants.{Number, Total}
 use Rattle.column_type.specs.Types.{known, widthOf, widths}
 use Rattle.wire.specs.Features.{features}
-use Rattle.header.specs.Header.{Header, repetition, fieldHead, fieldTexts, field, column, alias, columnsAfter, aliasesAfter, lists, texts, payload}
+use Rattle.header.specs.Header.{Header, columnsAfter, aliasesAfter, lists, payload}
+use Rattle.records.specs.Records.{repetition, fieldHead, fieldTexts, field, column, alias, texts}
 use Rattle.header.specs.Parents.{meets, allReach}
 use Rattle.numbers.specs.Rows.{flat, flatBy}
-use Rattle.header.specs.Tables.{headerOf, chained, answer, written, fieldWords, columnWords, aliasWords, dark, Answered}
+use Rattle.header.specs.Tables.{headerOf, chained, answer, written, dark, Answered}
+use Rattle.records.specs.Words.{fieldWords, columnWords, aliasWords}
 use Rattle.header.specs.declared.HeaderTables.{HeaderTables}
 use Rattle.header.specs.declared.HeaderAnswer.the-variants.{Accepted}
 use Rattle.footer.specs.Footer.{footerOf, link, cluster, entriesOf, payload as footer-payload}

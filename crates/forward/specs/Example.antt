@@ -7,7 +7,7 @@ use lib.ListN.{length}
 use Rattle.wire.specs.Reading.{found}
 use Rattle.header.specs.Header.{Header}
 use Rattle.header.specs.Tables.{headerOf, answer, Answered}
-use Rattle.header.specs.declared.ColumnRow.{ColumnRow}
+use Rattle.records.specs.declared.ColumnRow.{ColumnRow}
 use Rattle.header.specs.declared.HeaderAnswer.{HeaderAnswer}
 use Rattle.header.specs.declared.HeaderAnswer.the-variants.{Accepted}
 use Rattle.header.specs.declared.HeaderTables.{HeaderTables}

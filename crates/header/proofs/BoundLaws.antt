@@ -1,84 +1,21 @@
--- In an accepted header every parent and every column's field is below the count of fields.
+-- In an accepted header every parent and every column's field is below the count of fields, and a column's bits are a number of two bytes.
 use Prim.Native.Nat.{ℕ, zero, suc, _+_, _*_, _<_}
-use mathlib.Core.Path.{_≡_, refl, sym, ap, _∙_}
-use mathlib.Core.Bool.{Bool, true, false}
+use mathlib.Core.Path.{_≡_, refl, sym, _∙_}
+use mathlib.Core.Bool.{Bool}
 use mathlib.Core.List.{List, [], _∷_, _++_, map}
 use native.Mathlib.Omega.{arith}
-use borrow.Author.Tests.{ltb-true}
 use lib.ListN.{length, getD, take}
-use lib.Seq.{getD-take}
-use lib.Dec.{ltb, eqb}
-use Rattle.numbers.specs.Choice.{pick}
-use Rattle.wire.specs.declared.Kind.the-variants.{Number}
-use Rattle.wire.specs.Reading.{Step, found, refused, Rule, _>>=_, give, fault, number, judged, tested, below, listed, recordOf, atMost}
 use Rattle.numbers.specs.Rows.{flat}
-use Rattle.wire.proofs.Laws.{never, bound}
-use Rattle.wire.proofs.Loops.{Each, list-each, record-found}
-use Rattle.header.specs.Header.{fieldHead, fieldTexts, field, column, repetition, sized, fieldList, columnList}
-use Rattle.header.specs.Tables.{columnWords}
-use Rattle.header.specs.declared.FieldHead.{FieldHead}
-use Rattle.header.specs.declared.FieldTexts.{FieldTexts}
-use Rattle.header.specs.declared.FieldRow.{FieldRow}
-use Rattle.header.specs.declared.ColumnRow.{ColumnRow}
-
--- a number that was found below a limit
-pub below-limit : (limit at : ℕ) (x : Step ℕ) {v p : ℕ} → judged (below limit) at x ≡ found v p → v < limit
-unfolding judged
-below-limit limit at (found w q) {v} {p} e = by (ltb w limit) refl e
-  where
-    by : (b : Bool) → ltb w limit ≡ b → pick {A = Step ℕ} (eqb (pick b 0 14) 0) (found w q) (refused (fault (pick b 0 14) Number at)) ≡ found v p → v < limit
-    by true g h = let same : w ≡ v = cc in rw same at (ltb-true w limit g)
-    by false g h = never h
-below-limit limit at (refused f) e = never e
-
--- a field's parent
-
-module _ (n : ℕ) (s : List ℕ) where
-  rest : ℕ → ℕ → ℕ → Rule FieldHead
-  rest version type-version parent = do
-    role ← tested 2 (listed 4)
-    flags ← tested 2 (listed 3)
-    times ← repetition flags
-    give (record { «field_version» = version; «type_version» = type-version; parent = record { 0 = parent }; role = role; flags = flags; repetition = times })
-
-  Below : FieldHead → ℕ → Type 0
-  Below h _ = h .parent .0 < n
-
-  head-parent : (at : ℕ) {h : FieldHead} {p : ℕ} → fieldHead n s at ≡ found h p → h .parent .0 < n
-  unfolding fieldHead rest Below
-  head-parent at {h} {p} =
-      bound Below (number 4) (λ v. number 4 >>= (λ t. tested 4 (below n) >>= rest v t)) s at (λ v q _.
-      bound Below (number 4) (λ t. tested 4 (below n) >>= rest v t) s q (λ t q₂ _.
-      bound Below (tested 4 (below n)) (rest v t) s q₂ (λ parent q₃ e.
-      bound Below (tested 2 (listed 4)) (λ role. tested 2 (listed 3) >>= (λ flags. repetition flags >>= (λ times. give (record { «field_version» = v; «type_version» = t; parent = record { 0 = parent }; role = role; flags = flags; repetition = times })))) s q₃ (λ role q₄ _.
-      bound Below (tested 2 (listed 3)) (λ flags. repetition flags >>= (λ times. give (record { «field_version» = v; «type_version» = t; parent = record { 0 = parent }; role = role; flags = flags; repetition = times }))) s q₄ (λ flags q₅ _.
-      bound Below (repetition flags) (λ times. give (record { «field_version» = v; «type_version» = t; parent = record { 0 = parent }; role = role; flags = flags; repetition = times })) s q₅ (λ times q₆ _ g.
-      let same : _≡_ {A = FieldHead} (record { «field_version» = v; «type_version» = t; parent = record { 0 = parent }; role = role; flags = flags; repetition = times }) h = cc in
-      rw (← same) (below-limit n q₂ (number 4 s q₂) e)))))))
-
-  field-parent : (at : ℕ) {r : FieldRow} {p : ℕ} → field n s at ≡ found r p → r .head .parent .0 < n
-  unfolding field
-  field-parent at {r} {p} =
-      bound (λ r _. r .head .parent .0 < n) (fieldHead n) (λ h. fieldTexts >>= (λ t. give (record { head = h; texts = t }))) s at (λ h q e.
-      bound (λ r _. r .head .parent .0 < n) fieldTexts (λ t. give (record { head = h; texts = t })) s q (λ t q₂ _ g.
-      let same : _≡_ {A = FieldRow} (record { head = h; texts = t }) r = cc in
-      rw (← same) (head-parent at e)))
-
-  column-field : (at : ℕ) {r : ColumnRow} {p : ℕ} → column n s at ≡ found r p → r .field .0 < n
-  unfolding column
-  column-field at {r} {p} =
-      bound In (number 2) (λ type. tested 2 (sized type) >>= (λ bits. tested 4 (below n) >>= (λ f. tested 4 (listed 7) >>= (λ flags. give (row type bits f flags))))) s at (λ type q _.
-      bound In (tested 2 (sized type)) (λ bits. tested 4 (below n) >>= (λ f. tested 4 (listed 7) >>= (λ flags. give (row type bits f flags)))) s q (λ bits q₂ _.
-      bound In (tested 4 (below n)) (λ f. tested 4 (listed 7) >>= (λ flags. give (row type bits f flags))) s q₂ (λ f q₃ e.
-      bound In (tested 4 (listed 7)) (λ flags. give (row type bits f flags)) s q₃ (λ flags q₄ _ g.
-      let same : row type bits f flags ≡ r = cc in
-      rw (← same) (below-limit n q₂ (number 4 s q₂) e)))))
-    where
-      In : ColumnRow → ℕ → Type 0
-      In r _ = r .field .0 < n
-
-      row : ℕ → ℕ → ℕ → ℕ → ColumnRow
-      row type bits f flags = record { «column_type» = type; bits = bits; field = record { 0 = f }; flags = flags }
+use Rattle.wire.specs.declared.ListHead.{ListHead}
+use Rattle.wire.specs.Reading.{Step, found, refused, Rule, after, within, items, inItem, recordOf, recordHead, recordBody, listOf, listHead, atMost}
+use Rattle.wire.proofs.Laws.{never, closed-found}
+use Rattle.wire.proofs.Loops.{Each, list-each, list-is, record-found}
+use Rattle.records.specs.Records.{field, column}
+use Rattle.records.specs.Words.{columnWords}
+use Rattle.records.specs.declared.FieldRow.{FieldRow}
+use Rattle.records.specs.declared.ColumnRow.{ColumnRow}
+use Rattle.records.proofs.Bounds.{field-parent, Bytes, take-bytes, column-numbers}
+use Rattle.header.specs.Header.{fieldList, columnList}
 
 -- of every row
 
@@ -90,7 +27,50 @@ parents-below strict s at =
 pub columns-below : (strict : Bool) (n : ℕ) (s : List ℕ) (at : ℕ) {rows : List ColumnRow} {p : ℕ} → columnList strict n s at ≡ found rows p → Each (λ (r : ColumnRow). r .field .0 < n) rows
 columns-below strict n s at =
     list-each (λ _ (r : ColumnRow). r .field .0 < n) strict (atMost 1024) (λ _ _. recordOf strict (column n)) s at
-    (λ _ _ t from x p. record-found (λ (r : ColumnRow). r .field .0 < n) strict (column n) t from (λ u at q. column-field n u at))
+    (λ _ _ t from x p. record-found (λ (r : ColumnRow). r .field .0 < n) strict (column n) t from (λ u at q e. column-numbers n u at e .0))
+
+-- a fact of every row that its rule shows in containers of bytes
+
+each-snoc : {A : Type 0} (P : A → Type 0) (xs : List A) (x : A) → Each P xs → P x → Each P (xs ++ (x ∷ []))
+each-snoc P [] x e p = (p, tt)
+each-snoc P (y ∷ ys) x e p = (e .0, each-snoc P ys x (e .1) p)
+
+module _ {A : Type 0} (P : A → Type 0) (head : ℕ) (r : List A → Rule A) (s : List ℕ) (rule : (done : List A) (at : ℕ) (x : A) (p : ℕ) → r done s at ≡ found x p → P x) where
+  items-each : (n : ℕ) (done : List A) (at : ℕ) {rows : List A} {p : ℕ} → Each P done → items head r n done s at ≡ found rows p → Each P rows
+  unfolding items
+  items-each zero done at {rows} each e = let same : done ≡ rows = cc in rw same at each
+  items-each (suc n) done at {rows} {p} each e = by (λ d a. items-each n d a) (r done s at) refl e
+    where
+      by : ((done : List A) (at : ℕ) → Each P done → items head r n done s at ≡ found rows p → Each P rows) → (x : Step A) → r done s at ≡ x
+          → after (λ x. items head r n (done ++ (x ∷ []))) s (within head (length done) x) ≡ found rows p → Each P rows
+      by more (found x q) g w = more (done ++ (x ∷ [])) q (each-snoc P done x each (rule done at x q g)) w
+      by more (refused f) g w = never w
+
+record-in : {A : Type 0} (P : A → Type 0) (strict : Bool) (r : Rule A) (s : List ℕ) (at : ℕ) {x : A} {p : ℕ}
+    → ((stop from q : ℕ) → r (take stop s) from ≡ found x q → P x) → recordOf strict r s at ≡ found x p → P x
+unfolding recordOf
+record-in P strict r s at {x} {p} rule e = by (recordHead s at) e
+  where
+    by : (h : Step ℕ) → recordBody strict r s h ≡ found x p → P x
+    by (found start stop) g = let k = closed-found (λ f. f) strict stop (r (take stop s) start) g in rule stop start (k .end) (k .was)
+    by (refused f) g = never g
+
+module _ {A : Type 0} (P : A → Type 0) (strict : Bool) (verdict : ℕ → ℕ) (r : ℕ → List A → Rule A) (s : List ℕ) (at : ℕ)
+    (rule : (n : ℕ) (done : List A) (stop from : ℕ) (x : A) (p : ℕ) → r n done (take stop s) from ≡ found x p → P x) where
+  list-in : {rows : List A} {p : ℕ} → listOf strict verdict r s at ≡ found rows p → Each P rows
+  unfolding listOf
+  list-in {rows} {p} e = by (listHead verdict s at) refl
+    where
+      by : (x : Step ListHead) → listHead verdict s at ≡ x → Each P rows
+      by (found h stop) g =
+          let k = closed-found (inItem at (h .count)) strict stop (items at (r (h .count)) (h .count) [] (take stop s) (h .start)) (sym (list-is strict verdict r s at g) ∙ e) in
+          items-each P at (r (h .count)) (take stop s) (λ done from x q. rule (h .count) done stop from x q) (h .count) [] (h .start) tt (k .was)
+      by (refused f) g = let w : listOf strict verdict r s at ≡ refused f = rw g in never (sym w ∙ e)
+
+pub bits-below : (strict : Bool) (n : ℕ) (s : List ℕ) (at : ℕ) {rows : List ColumnRow} {p : ℕ} → Bytes s → columnList strict n s at ≡ found rows p → Each (λ (r : ColumnRow). r .bits < 65536) rows
+bits-below strict n s at b =
+    list-in (λ (r : ColumnRow). r .bits < 65536) strict (atMost 1024) (λ _ _. recordOf strict (column n)) s at
+    (λ _ _ stop from x p. record-in (λ (r : ColumnRow). r .bits < 65536) strict (column n) (take stop s) from (λ inner start q e. column-numbers n (take inner (take stop s)) start e .1 (take-bytes inner (take stop s) (take-bytes stop s b))))
 
 -- as facts of the words
 

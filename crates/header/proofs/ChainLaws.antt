@@ -1,18 +1,18 @@
 -- Laws of parent chains: as many moves as there are fields are enough.
 -- Assumes nothing.
-use Prim.Native.Nat.{ℕ, zero, suc, _+_, _≤_, _<_}
+use Prim.Native.Nat.{ℕ, zero, suc, _≤_, _<_}
 use mathlib.Core.Path.{_≡_, refl, sym, ap, ap₂, _∙_}
-use mathlib.Core.Logic.{_⊎_, inl, inr, ⊎-elim, _↔_}
+use mathlib.Core.Logic.{⊎-elim, _↔_}
 use mathlib.Core.Bool.{Bool, true, false}
 use mathlib.Core.List.{List}
 use native.Mathlib.Omega.{arith}
 use native.Mathlib.Decide.{le-ind}
-use lib.ListN.{length, getD}
+use lib.ListN.{getD}
 use lib.Dec.{eqb}
 use borrow.Author.Tests.{eqb-true, eq-eqb}
-use Rattle.numbers.specs.Choice.{pick, both}
+use Rattle.numbers.specs.Choice.{pick}
 use Rattle.header.specs.Parents.{Inside, ancestor, meets, topLevel, Reaches, reaches, Above, isAbove}
-use Rattle.header.proofs.Counting.{which, clash, is-false, count, count-le, count-mono, count-more}
+use Rattle.header.proofs.Counting.{which, clash, is-false, count, count-le, count-more}
 
 pick-or : (b : Bool) {x : Bool} → x ≡ true → pick b true x ≡ true
 pick-or true e = refl

@@ -1,19 +1,20 @@
 -- Laws of dark fields, a column more at a time, and of a table's columns. Assumes nothing.
-use Prim.Native.Nat.{ℕ, zero, suc, _+_, _*_, _≤_, _<_}
-use mathlib.Core.Path.{_≡_, refl, sym, ap, _∙_}
+use Prim.Native.Nat.{ℕ, _+_, _*_, _≤_, _<_}
+use mathlib.Core.Path.{_≡_, refl, sym}
 use mathlib.Core.Logic.{_⊎_, inl, inr, ⊎-elim, _↔_}
 use mathlib.Core.Bool.{Bool, true, false, not}
 use mathlib.Core.List.{List, [], _∷_, _++_}
-use native.Mathlib.Omega.{arith}
 use native.Mathlib.Numerals.{add-one}
 use lib.ListN.{length, getD, take}
 use lib.Seq.{length-take-le, getD-take}
 use Rattle.numbers.specs.Choice.{pick, both}
 use Rattle.column_type.specs.Types.{known}
-use Rattle.header.specs.Parents.{Inside, Above, isAbove}
+use Rattle.header.specs.Parents.{Inside, isAbove}
+use Rattle.wire.proofs.Loops.{Each}
 use Rattle.header.specs.Marks.{Darkened}
-use Rattle.header.specs.Tables.{bit, darkens, dark, columnAt, columnsIn}
-use Rattle.header.specs.declared.ColumnRow.{ColumnRow}
+use Rattle.header.specs.Statements.{UnknownBelow}
+use Rattle.header.specs.Tables.{bit, darkens, dark, columnsIn}
+use Rattle.records.specs.declared.ColumnRow.{ColumnRow}
 use Rattle.header.proofs.ChainLaws.{isAbove-same, isAbove-iff}
 use Rattle.header.proofs.Counting.{clash}
 
@@ -63,22 +64,15 @@ module _ (parents : List ℕ) (n : ℕ) (inside : Inside parents n) (fits : n �
       )
       (d .each f)
 
--- the unbounded meaning: one of the columns is of unknown type, and hangs on the field or on one below it
-abbrev pub Darkened-by : List ℕ → List ColumnRow → ℕ → Type 0
-Darkened-by parents [] f = ⊥
-Darkened-by parents (c ∷ cs) f = ((known (c .«column_type») ≡ false) × Above parents f (c .field .0)) ⊎ Darkened-by parents cs f
-
-abbrev pub Columns-inside : List ColumnRow → ℕ → Type 0
-Columns-inside [] n = Unit {0}
-Columns-inside (c ∷ cs) n = (c .field .0 < n) × Columns-inside cs n
+-- the unbounded meaning
 
 one-more : (k a d : Bool) {A D : Type 0} → (a ≡ true) ↔ A → (d ≡ true) ↔ D → (pick (both (not k) a) true d ≡ true) ↔ (((k ≡ false) × A) ⊎ D)
 one-more true a d h g = (λ e. inr (g .0 e), λ s. ⊎-elim (λ x. clash refl (x .0)) (g .1) s)
 one-more false true d h g = (λ _. inl (refl, h .0 refl), λ _. refl)
 one-more false false d h g = (λ e. inr (g .0 e), λ s. ⊎-elim (λ x. clash (h .1 (x .1)) refl) (g .1) s)
 
-pub dark-iff : (parents : List ℕ) → Inside parents (length parents) → (cs : List ColumnRow) → Columns-inside cs (length parents) → (f : ℕ)
-    → (dark parents cs f ≡ true) ↔ Darkened-by parents cs f
+pub dark-iff : (parents : List ℕ) → Inside parents (length parents) → (cs : List ColumnRow) → Each (λ (c : ColumnRow). c .field .0 < length parents) cs → (f : ℕ)
+    → (dark parents cs f ≡ true) ↔ UnknownBelow parents cs f
 unfolding dark
 dark-iff parents inside [] all f = (λ e. clash e refl, λ e. absurd e)
 dark-iff parents inside (c ∷ cs) all f =

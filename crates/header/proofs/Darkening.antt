@@ -1,13 +1,12 @@
 -- A chain climbed to make its fields dark: what holds at each field on the way, and of the marks at the end. Assumes nothing.
-use Prim.Native.Nat.{ℕ, zero, suc, _+_, _≤_, _<_}
+use Prim.Native.Nat.{ℕ, zero, suc, _≤_, _<_}
 use mathlib.Core.Path.{_≡_, refl, sym, ap, _∙_}
 use mathlib.Core.Logic.{_⊎_, inl, inr, ⊎-elim}
-use mathlib.Core.Bool.{Bool, true, false}
+use mathlib.Core.Bool.{true}
 use mathlib.Core.List.{List}
 use native.Mathlib.Omega.{arith}
 use lib.ListN.{length, getD, set, length-set, replicate, length-replicate}
 use lib.Seq.{getD-set-same}
-use Rattle.numbers.specs.Choice.{pick}
 use Rattle.header.specs.Parents.{Inside, ancestor, Above, isAbove}
 use Rattle.header.specs.Marks.{DarkMarks, Darkened}
 use Rattle.header.proofs.Counting.{which, clash}

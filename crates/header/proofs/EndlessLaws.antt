@@ -1,20 +1,20 @@
 -- Laws of the lowest field whose chain never ends. Assumes nothing.
 use Prim.Native.Nat.{ℕ, zero, suc, _+_, _≤_, _<_}
 use mathlib.Core.Path.{_≡_, refl, sym, ap, _∙_}
-use mathlib.Core.Logic.{_⊎_, inl, inr, ⊎-elim, _↔_}
+use mathlib.Core.Logic.{_↔_}
 use mathlib.Core.Bool.{Bool, true, false}
 use mathlib.Core.List.{List}
 use native.Mathlib.Omega.{arith}
 use native.Mathlib.Numerals.{add-one}
-use native.Mathlib.Decide.{le-ind, decLe}
-use lib.ListN.{length, getD, take}
+use native.Mathlib.Decide.{le-ind}
+use lib.ListN.{length, take}
 use lib.Seq.{getD-take}
 use borrow.Author.Count.{below-more}
 use Rattle.numbers.specs.Choice.{pick, both}
 use Rattle.header.specs.declared.parents.Chains.{Chains}
 use Rattle.header.specs.declared.parents.Chains.the-variants.{AllEnd, Endless}
 use Rattle.header.specs.Parents.{Inside, Reaches, reaches, allReach, orElse, endless}
-use Rattle.header.proofs.Counting.{which, clash, is-false}
+use Rattle.header.proofs.Counting.{clash}
 use Rattle.header.proofs.ChainLaws.{reaches-iff, reaches-same}
 
 module _ (parents : List ℕ) (n : ℕ) where

@@ -12,3 +12,6 @@ pub mod PayloadLaws
 pub mod BoundLaws
 pub mod ReadyLaws
 pub mod ReadLaws
+pub mod SchemaLaws
+pub mod Samples
+pub mod Statements

@@ -1,18 +1,18 @@
 -- Laws of the moves from a field to its self-parented field, and of their sum. Assumes nothing.
 use Prim.Native.Nat.{ℕ, zero, suc, _+_, _*_, _-_, _/_, _≤_, _<_}
 use mathlib.Core.Path.{_≡_, refl, sym, ap, _∙_}
-use mathlib.Core.Logic.{_⊎_, inl, inr, ⊎-elim}
-use mathlib.Core.Bool.{Bool, true, false}
+use mathlib.Core.Logic.{⊎-elim}
+use mathlib.Core.Bool.{true, false}
 use mathlib.Core.List.{List}
 use native.Mathlib.Nat.{mul-one, mul-suc, suc-mul, mul-sub}
 use native.Mathlib.Numerals.{add-one}
 use native.Mathlib.Omega.{arith}
-use lib.ListN.{length, getD, take}
+use lib.ListN.{getD, take}
 use lib.Seq.{getD-take}
 use Rattle.numbers.specs.Choice.{pick}
 use Rattle.header.specs.Parents.{Inside, meets, topLevel, reaches, moves, totalMoves}
-use Rattle.header.proofs.Counting.{which, clash, is-false, count, count-all, search-below}
-use Rattle.header.proofs.ChainLaws.{meets-here, meets-zero, meets-up, meets-down, meets-more, levels, crossing}
+use Rattle.header.proofs.Counting.{which, count, count-all, search-below}
+use Rattle.header.proofs.ChainLaws.{meets-down, meets-more, levels, crossing}
 
 module _ (parents : List ℕ) where
   pub moves-top : (k f : ℕ) → topLevel parents f ≡ true → moves parents k f ≡ 0

@@ -1,31 +1,32 @@
 -- The reading of a payload: from its scan to the answer and the lent tables.
-use Prim.Native.Nat.{ℕ, _+_, _*_, _/_, _≤_, _<_}
+use Prim.Native.Nat.{ℕ, _/_, _≤_}
 use mathlib.Core.Path.{_≡_, refl, sym, ap, subst, _∙_}
 use mathlib.Core.Bool.{Bool, true, false}
-use mathlib.Core.List.{List}
+use mathlib.Core.List.{List, [], _∷_}
 use native.Mathlib.Omega.{arith}
 use borrow.Author.Tests.{leb-true}
 use lib.Dec.{leb}
 use lib.ListN.{length, getD, take, length-map}
 use lib.Seq.{take-at, getD-take}
-use Rattle.numbers.specs.Choice.{both}
+use Rattle.numbers.specs.Choice.{pick, both}
 use Rattle.wire.specs.declared.Fault.{Fault}
 use Rattle.wire.specs.declared.Kind.the-variants.{Chain}
-use Rattle.wire.specs.Reading.{Step, found, refused, mapped, accepted, fault, recordOf}
-use Rattle.wire.specs.Envelope.{whole, opened, envelope, versioned}
+use Rattle.wire.specs.Reading.{Step, found, refused, mapped, fault, recordOf}
+use Rattle.wire.specs.Outcome.{acceptedWith, refusedIn}
+use Rattle.wire.specs.Envelope.{whole, opened, versioned}
 use Rattle.numbers.specs.Rows.{over}
 use Rattle.wire.proofs.Laws.{never, Mapped, mapped-found, closed-found}
 use Rattle.wire.proofs.Loops.{list-most}
-use Rattle.header.specs.Header.{Lists, Header, field, lists, texts, payload, flagsOf}
-use Rattle.header.specs.Tables.{Ready, Answered, KeptAll, answer, written, headerOf, chained, fitting, listsAt, parentsOf, fieldTable, columnTable, aliasTable}
+use Rattle.header.specs.Header.{Header, lists, payload, flagsOf}
+use Rattle.records.specs.Records.{field, texts}
+use Rattle.header.specs.Tables.{Ready, Answered, outcomeOf, textsOf, reported, reportedTexts, noTexts, roomFor, KeptAll, answer, written, headerOf, chained, fitting, listsAt, parentsOf, fieldTable, columnTable, aliasTable}
 use Rattle.header.specs.Parents.{Inside, endless}
 use Rattle.header.specs.Answers.{scanOf}
 use Rattle.header.specs.declared.parents.Chains.the-variants.{AllEnd, Endless}
-use Rattle.header.specs.declared.HeaderTexts.{HeaderTexts}
-use Rattle.header.specs.declared.FieldRow.{FieldRow}
-use Rattle.header.specs.declared.HeaderLists.{HeaderLists}
-use Rattle.header.specs.declared.HeaderScan.{HeaderScan}
-use Rattle.header.specs.declared.HeaderTables.{HeaderTables}
+use Rattle.records.specs.declared.HeaderTexts.{HeaderTexts}
+use Rattle.records.specs.declared.FieldRow.{FieldRow}
+use Rattle.header.specs.declared.scan.HeaderLists.{HeaderLists}
+use Rattle.header.specs.declared.scan.HeaderScan.{HeaderScan}
 use Rattle.header.specs.declared.HeaderAnswer.{HeaderAnswer}
 use Rattle.header.specs.declared.HeaderAnswer.the-variants.{Accepted, Refused}
 use Rattle.header.proofs.ListLaws.{Parts, lists-parts}
@@ -33,17 +34,53 @@ use Rattle.header.proofs.PayloadLaws.{texts-refused, payload-lists}
 use Rattle.header.proofs.BoundLaws.{parents-below, each-map}
 use Rattle.header.proofs.RowLaws.{rows-end, rows-endless}
 
+-- the answer in document 01's terms
+
+outcome-is : (f c a : ℕ) (x : Step Header) → outcomeOf (answer f c a x) ≡ reported f c a x
+unfolding answer reported
+outcome-is f c a (found h p) = by (roomFor f c a (h .lists))
+  where
+    by : (b : Bool) → outcomeOf (pick b (Accepted (record { texts = h .texts; fields = length (h .lists .fields); columns = length (h .lists .columns); aliases = length (h .lists .aliases) })) (Refused 20))
+        ≡ pick b (acceptedWith (length (h .lists .fields) ∷ length (h .lists .columns) ∷ length (h .lists .aliases) ∷ [])) (refusedIn 1 20 3)
+    by true = refl
+    by false = refl
+outcome-is f c a (refused g) = refl
+
+texts-are : (f c a : ℕ) (x : Step Header) → textsOf (answer f c a x) ≡ reportedTexts f c a x
+unfolding answer reportedTexts
+texts-are f c a (found h p) = by (roomFor f c a (h .lists))
+  where
+    by : (b : Bool) → textsOf (pick b (Accepted (record { texts = h .texts; fields = length (h .lists .fields); columns = length (h .lists .columns); aliases = length (h .lists .aliases) })) (Refused 20))
+        ≡ pick b (h .texts) noTexts
+    by true = refl
+    by false = refl
+texts-are f c a (refused g) = refl
+
+-- a call that leaves the answer and the tables that are due
+pub answered : (x : Step Header) {f₀ f c₀ c a₀ a : List ℕ} {r : HeaderAnswer} → r ≡ answer (length f₀) (length c₀) (length a₀) x
+    → f ≡ written fieldTable (length f₀) (length c₀) (length a₀) f₀ x → c ≡ written columnTable (length f₀) (length c₀) (length a₀) c₀ x → a ≡ written aliasTable (length f₀) (length c₀) (length a₀) a₀ x
+    → Answered x f₀ f c₀ c a₀ a r
+answered x {f₀ = f₀} {c₀ = c₀} {a₀ = a₀} e ef ec ea =
+    record {
+      answers = e;
+      reports = ap outcomeOf e ∙ outcome-is (length f₀) (length c₀) (length a₀) x;
+      reportsTexts = ap textsOf e ∙ texts-are (length f₀) (length c₀) (length a₀) x;
+      fieldsAre = ef;
+      columnsAre = ec;
+      aliasesAre = ea;
+    }
+
 -- a refused header changes no table
 pub answered-refused : {x : Step Header} {g : Fault} (f c a : List ℕ) → x ≡ refused g → Answered x f f c c a a (Refused (g .number))
 unfolding answer written
-answered-refused f c a e = record { answers = rw e; fieldsAre = rw e; columnsAre = rw e; aliasesAre = rw e }
+answered-refused {x} f c a e = answered x (rw e) (rw e) (rw e) (rw e)
 
 both-true : (x y : Bool) → both x y ≡ true → (x ≡ true) × (y ≡ true)
 both-true true y e = (refl, e)
 both-true false y e = absurd (omega (arith, leb-true 1 0 e))
 
 -- the lists of a payload, where they stand
-payload-parts : (strict : Bool) (s : List ℕ) {h : Header} {p : ℕ} → payload strict s 4 ≡ found h p → lists strict s (h .lists .fieldsAt) ≡ found (h .lists) p
+pub payload-parts : (strict : Bool) (s : List ℕ) {h : Header} {p : ℕ} → payload strict s 4 ≡ found h p → lists strict s (h .lists .fieldsAt) ≡ found (h .lists) p
 payload-parts strict s {h} {p} e = by (texts s 4) refl
   where
     by : (x : Step HeaderTexts) → texts s 4 ≡ x → lists strict s (h .lists .fieldsAt) ≡ found (h .lists) p
@@ -54,22 +91,22 @@ payload-parts strict s {h} {p} e = by (texts s 4) refl
 
 -- a payload that was found by a scan, which collected the parents and the flags of the fields
 module _ (strict : Bool) (s : List ℕ) {scan : HeaderScan} {q : ℕ} {p₀ p f₀ f : List ℕ} (e : found scan q ≡ mapped scanOf (whole strict (payload strict) s 4)) (k : KeptAll (payload strict s 4) p₀ p f₀ f) where
-  m : Mapped scanOf (whole strict (payload strict) s 4) scan q
+  pub m : Mapped scanOf (whole strict (payload strict) s 4) scan q
   m = mapped-found scanOf (whole strict (payload strict) s 4) e
 
-  is-lists : scan .lists ≡ scanOf (m .value) .lists
+  pub is-lists : scan .lists ≡ scanOf (m .value) .lists
   is-lists = ap (λ (x : HeaderScan). x .lists) (m .is)
 
-  count : length (m .value .lists .fields) ≡ scan .lists .fields
+  pub count : length (m .value .lists .fields) ≡ scan .lists .fields
   count = sym (ap (λ (x : HeaderLists). x .fields) is-lists)
 
-  stood : (end : ℕ) × (payload strict s 4 ≡ found (m .value) end)
+  pub stood : (end : ℕ) × (payload strict s 4 ≡ found (m .value) end)
   stood = let c = closed-found (λ g. g) strict (length s) (payload strict s 4) (m .was) in (c .end, c .was)
 
   again : lists strict s (scan .lists .«fields_at») ≡ found (m .value .lists) (stood .0)
   again = subst (λ (x : ℕ). lists strict s x ≡ found (m .value .lists) (stood .0)) (sym (ap (λ (x : HeaderLists). x .«fields_at») is-lists)) (payload-parts strict s (stood .1))
 
-  rows : Parts strict s (scan .lists .«fields_at») (m .value .lists) (stood .0)
+  pub rows : Parts strict s (scan .lists .«fields_at») (m .value .lists) (stood .0)
   rows = lists-parts strict s (scan .lists .«fields_at») again
 
   some-parents : take (scan .lists .fields) p ≡ parentsOf (m .value .lists .fields)
@@ -95,7 +132,7 @@ module _ (strict : Bool) (s : List ℕ) {scan : HeaderScan} {q : ℕ} {p₀ p f�
   chain-refused g w = rw (m .was, rows-endless (m .value .lists .fields) p (scan .lists .fields) count some-parents g w)
 
   module _ (w : endless (take (scan .lists .fields) p) (scan .lists .fields) (scan .lists .fields) ≡ AllEnd) where
-    header-found : chained (whole strict (payload strict) s 4) ≡ found (m .value) q
+    pub header-found : chained (whole strict (payload strict) s 4) ≡ found (m .value) q
     unfolding chained
     header-found = rw (m .was, rows-end (m .value .lists .fields) p (scan .lists .fields) count some-parents w)
 
@@ -107,7 +144,7 @@ module _ (strict : Bool) (s : List ℕ) {scan : HeaderScan} {q : ℕ} {p₀ p f�
       unfolding answer written
       no-room r =
           let z = sym fits-same ∙ sym r in
-          record { answers = rw (header-found, z); fieldsAre = rw (header-found, z); columnsAre = rw (header-found, z); aliasesAre = rw (header-found, z) }
+          answered (chained (whole strict (payload strict) s 4)) (rw (header-found, z)) (rw (header-found, z)) (rw (header-found, z)) (rw (header-found, z))
 
       module _ (r : true ≡ fitting (length F) (length C) (length A) (scan .lists)) where
         pub ready : Ready strict s (scan .lists) p (take (scan .lists .fields) f) (length F) (length C) (length A)
@@ -135,12 +172,11 @@ module _ (strict : Bool) (s : List ℕ) {scan : HeaderScan} {q : ℕ} {p₀ p f�
         unfolding answer written
         all-read x y z =
             let t = sym fits-same ∙ sym r in
-            record {
-              answers = rw (header-found, t) (ap (λ (v : HeaderScan). Accepted (record { texts = v .texts; fields = v .lists .fields; columns = v .lists .columns; aliases = v .lists .aliases })) (m .is));
-              fieldsAre = rw (header-found, t) (rw again at x);
-              columnsAre = rw (header-found, t) (rw again at y);
-              aliasesAre = rw (header-found, t) (rw again at z);
-            }
+            answered (chained (whole strict (payload strict) s 4))
+            (rw (header-found, t) (ap (λ (v : HeaderScan). Accepted (record { texts = v .texts; fields = v .lists .fields; columns = v .lists .columns; aliases = v .lists .aliases })) (m .is)))
+            (rw (header-found, t) (rw again at x))
+            (rw (header-found, t) (rw again at y))
+            (rw (header-found, t) (rw again at z))
 
 pub chained-refused : {x : Step Header} {g : Fault} → x ≡ refused g → chained x ≡ refused g
 unfolding chained

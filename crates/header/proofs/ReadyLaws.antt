@@ -1,8 +1,8 @@
 -- What the writing of the tables needs of lists that a scan accepted.
 use Prim.Native.Nat.{ℕ, _+_, _*_, _≤_, _<_}
-use mathlib.Core.Path.{_≡_, refl, sym, ap, subst, _∙_}
+use mathlib.Core.Path.{_≡_, refl, sym, ap, subst}
 use mathlib.Core.Bool.{Bool, true}
-use mathlib.Core.List.{List, [], _∷_, _++_}
+use mathlib.Core.List.{List}
 use native.Mathlib.Omega.{arith}
 use borrow.Author.Tests.{leb-true}
 use lib.ListN.{length, getD, take}
@@ -10,11 +10,13 @@ use lib.Seq.{getD-take}
 use Rattle.wire.specs.Reading.{Step, found, refused, accepted, rowsOf, recordOf}
 use Rattle.numbers.specs.Rows.{flat, flatBy, over}
 use Rattle.wire.proofs.Loops.{list-most, flat-same}
-use Rattle.header.specs.Header.{Lists, lists, field, fieldList, columnList, aliasList, flagsOf}
-use Rattle.header.specs.Tables.{Ready, listsIn, listsAt, parentsOf, bit, dark, fieldWords, columnWords, aliasWords, columnsIn, fieldTable, columnTable, aliasTable}
+use Rattle.header.specs.Header.{Lists, lists, fieldList, columnList, aliasList}
+use Rattle.records.specs.Records.{field}
+use Rattle.header.specs.Tables.{Ready, listsIn, listsAt, parentsOf, bit, dark, columnsIn, fieldTable, columnTable, aliasTable}
+use Rattle.records.specs.Words.{fieldWords, columnWords, aliasWords}
 use Rattle.header.specs.Parents.{Inside}
-use Rattle.header.specs.declared.FieldRow.{FieldRow}
-use Rattle.header.specs.declared.HeaderLists.{HeaderLists}
+use Rattle.records.specs.declared.FieldRow.{FieldRow}
+use Rattle.header.specs.declared.scan.HeaderLists.{HeaderLists}
 use Rattle.header.proofs.ListLaws.{Parts, lists-parts}
 use Rattle.header.proofs.BoundLaws.{parents-below, columns-below, each-map, each-field}
 use Rattle.header.proofs.RowLaws.{columns-in}

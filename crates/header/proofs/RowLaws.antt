@@ -2,18 +2,17 @@
 use Prim.Native.Nat.{ℕ, zero, suc, _+_, _*_, _≤_, _<_}
 use mathlib.Core.Path.{_≡_, refl, sym, ap, _∙_}
 use mathlib.Core.Logic.{_↔_}
-use mathlib.Core.Bool.{Bool, true, false}
+use mathlib.Core.Bool.{true, false}
 use mathlib.Core.List.{List, [], _∷_, _++_}
 use native.Mathlib.Omega.{arith}
 use lib.ListN.{length, getD, take, List·getD-append, length-map}
 use lib.Seq.{take-suc, take-length}
-use Rattle.header.specs.declared.FieldRow.{FieldRow}
-use Rattle.header.specs.declared.FieldNumber.{FieldNumber}
-use Rattle.header.specs.declared.ColumnRow.{ColumnRow}
-use Rattle.header.specs.declared.parents.Chains.{Chains}
+use Rattle.records.specs.declared.FieldRow.{FieldRow}
+use Rattle.records.specs.declared.ColumnRow.{ColumnRow}
 use Rattle.header.specs.declared.parents.Chains.the-variants.{AllEnd, Endless}
 use Rattle.header.specs.Parents.{allReach, endless}
-use Rattle.header.specs.Tables.{parentsOf, columnWords, columnAt, columnsIn}
+use Rattle.header.specs.Tables.{parentsOf, columnAt, columnsIn}
+use Rattle.records.specs.Words.{columnWords}
 use Rattle.numbers.specs.Rows.{flat}
 use Rattle.header.proofs.Counting.{is-false}
 use Rattle.header.proofs.EndlessLaws.{all-reach-iff}
@@ -35,7 +34,7 @@ module _ (rows : List FieldRow) (parents : List ℕ) (n : ℕ) (count : length r
 
 -- a table of columns holds the rows whose words it starts with
 
-word-at : (d : ColumnRow) (rows : List ColumnRow) (rest : List ℕ) (k j : ℕ) → k < length rows → j < 4
+pub word-at : (d : ColumnRow) (rows : List ColumnRow) (rest : List ℕ) (k j : ℕ) → k < length rows → j < 4
     → getD (flat columnWords rows ++ rest) (4 * k + j) 0 ≡ getD (columnWords (getD rows k d)) j 0
 unfolding flat columnWords
 word-at d [] rest k j h l = absurd (omega arith)

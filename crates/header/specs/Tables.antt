@@ -3,24 +3,23 @@ use Prim.Native.Nat.{ℕ, zero, suc, _+_, _*_, _/_, _≤_}
 use mathlib.Core.List.{List, [], _∷_, _++_, map}
 use mathlib.Core.Bool.{Bool, true, false, not}
 use lib.ListN.{length, getD, take}
-use lib.Dec.{leb, eqb}
+use lib.Dec.{leb}
 use Rattle.numbers.specs.Choice.{pick, both}
 use mathlib.Core.Path.{_≡_}
 use Rattle.wire.specs.Reading.{Step, found, refused, fault, accepted, rowsOf}
 use Rattle.wire.specs.Envelope.{envelope}
+use Rattle.wire.specs.Outcome.{Outcome, acceptedWith, refusedIn}
+use Rattle.records.specs.declared.HeaderTexts.{HeaderTexts}
 use Rattle.numbers.specs.Rows.{flat, flatBy, over}
-use Rattle.wire.specs.declared.Text.{Text}
-use Rattle.wire.specs.declared.Fault.{Fault}
 use Rattle.wire.specs.declared.Kind.the-variants.{Chain}
 use Rattle.column_type.specs.Types.{known}
+use Rattle.records.specs.Words.{fieldWords, columnWords, aliasWords}
 use Rattle.header.specs.Header.{Lists, Header, lists, payload, flagsOf}
 use Rattle.header.specs.Answers.{summary}
-use Rattle.header.specs.declared.HeaderLists.{HeaderLists}
+use Rattle.header.specs.declared.scan.HeaderLists.{HeaderLists}
 use Rattle.header.specs.Parents.{allReach, isAbove}
-use Rattle.header.specs.declared.FieldRow.{FieldRow}
-use Rattle.header.specs.declared.ColumnRow.{ColumnRow}
-use Rattle.header.specs.declared.AliasRow.{AliasRow}
-use Rattle.header.specs.declared.HeaderTables.{HeaderTables}
+use Rattle.records.specs.declared.FieldRow.{FieldRow}
+use Rattle.records.specs.declared.ColumnRow.{ColumnRow}
 use Rattle.header.specs.declared.HeaderAnswer.{HeaderAnswer}
 use Rattle.header.specs.declared.HeaderAnswer.the-variants.{Accepted, Refused}
 
@@ -61,22 +60,6 @@ dark parents (c ∷ cs) f = pick (darkens parents c f) true (dark parents cs f)
 abbrev pub bit : Bool → ℕ
 bit true = 1
 bit false = 0
-
-abbrev textWords : Text → List ℕ
-textWords t = t .place ∷ t .len ∷ []
-
--- a row of the lent table of fields: 15 words, the last of them the dark mark
-unfoldable pub fieldWords : ℕ → FieldRow → List ℕ
-fieldWords d r =
-    (r .head .«field_version» ∷ r .head .«type_version» ∷ r .head .parent .0 ∷ r .head .role ∷ r .head .flags ∷ r .head .repetition ∷ [])
-    ++ textWords (r .texts .name) ++ textWords (r .texts .«type_name») ++ textWords (r .texts .«type_alias») ++ textWords (r .texts .description)
-    ++ (d ∷ [])
-
-unfoldable pub columnWords : ColumnRow → List ℕ
-columnWords c = c .«column_type» ∷ c .bits ∷ c .field .0 ∷ c .flags ∷ []
-
-unfoldable pub aliasWords : AliasRow → List ℕ
-aliasWords a = a .column .0 ∷ a .field .0 ∷ []
 
 -- the column of row i of a lent table of columns
 abbrev pub columnAt : List ℕ → ℕ → ColumnRow
@@ -119,9 +102,37 @@ unfoldable pub written : (Lists → List ℕ) → ℕ → ℕ → ℕ → List �
 written words f c a old (found h p) = pick (roomFor f c a (h .lists)) (over (words (h .lists)) old) old
 written words f c a old (refused g) = old
 
+-- the answer in document 01's terms
+
+abbrev pub outcomeOf : HeaderAnswer → Outcome
+outcomeOf (Accepted t) = acceptedWith (t .fields ∷ t .columns ∷ t .aliases ∷ [])
+outcomeOf (Refused n) = refusedIn 1 n 3
+
+abbrev pub noTexts : HeaderTexts
+noTexts = record { name = record { place = 0; len = 0 }; description = record { place = 0; len = 0 } }
+
+-- where name and description stand
+abbrev pub textsOf : HeaderAnswer → HeaderTexts
+textsOf (Accepted t) = t .texts
+textsOf (Refused n) = noTexts
+
+-- the outcome that is due, for tables of f, c and a words: each count is the length of the list read
+unfoldable pub reported : ℕ → ℕ → ℕ → Step Header → Outcome
+reported f c a (found h p) =
+    pick (roomFor f c a (h .lists))
+    (acceptedWith (length (h .lists .fields) ∷ length (h .lists .columns) ∷ length (h .lists .aliases) ∷ []))
+    (refusedIn 1 20 3)
+reported f c a (refused g) = refusedIn 1 (g .number) 3
+
+unfoldable pub reportedTexts : ℕ → ℕ → ℕ → Step Header → HeaderTexts
+reportedTexts f c a (found h p) = pick (roomFor f c a (h .lists)) (h .texts) noTexts
+reportedTexts f c a (refused g) = noTexts
+
 -- all that a call leaves, for a header and three lent tables
 pub record Answered (x : Step Header) (f₀ f c₀ c a₀ a : List ℕ) (r : HeaderAnswer) : Type 0 where
   pub answers : r ≡ answer (length f₀) (length c₀) (length a₀) x
+  pub reports : outcomeOf r ≡ reported (length f₀) (length c₀) (length a₀) x
+  pub reportsTexts : textsOf r ≡ reportedTexts (length f₀) (length c₀) (length a₀) x
   pub fieldsAre : f ≡ written fieldTable (length f₀) (length c₀) (length a₀) f₀ x
   pub columnsAre : c ≡ written columnTable (length f₀) (length c₀) (length a₀) c₀ x
   pub aliasesAre : a ≡ written aliasTable (length f₀) (length c₀) (length a₀) a₀ x

@@ -11,8 +11,8 @@ use Rattle.wire.specs.Envelope.{envelope}
 use Rattle.wire.specs.declared.Kind.the-variants.{Total}
 use Rattle.column_type.specs.Types.{known}
 use Rattle.header.specs.Header.{Lists, Header}
-use Rattle.header.specs.declared.FieldRow.{FieldRow}
-use Rattle.header.specs.declared.ColumnRow.{ColumnRow}
+use Rattle.records.specs.declared.FieldRow.{FieldRow}
+use Rattle.records.specs.declared.ColumnRow.{ColumnRow}
 use Rattle.page_list.specs.declared.PageRow.{PageRow}
 
 -- bytes that hold n elements of so many bits
@@ -60,10 +60,13 @@ pages strict file c bits sum = listOf strict (runningTotal sum) (λ _ _. page fi
 abbrev pub perColumn : ℕ → ℕ → ℕ
 perColumn columns n = unless (leb n 1024) 10 (unless (eqb n columns) 19 0)
 
+-- the pages of the next column, after the columns before, where the elements of each column have these bits
+abbrev pub pagesAfter : Bool → ℕ → List ℕ → List (List PageRow) → Rule (List PageRow)
+pagesAfter strict file bits before = pages strict file (length before) (getD bits (length before) 0) (pagesOf before)
+
 -- one item per column, where the elements of each column have these bits
 unfoldable pub payload : ℕ → List ℕ → Bool → Rule (List (List PageRow))
-payload file bits strict =
-    listOf strict (perColumn (length bits)) (λ _ before. pages strict file (length before) (getD bits (length before) 0) (pagesOf before))
+payload file bits strict = listOf strict (perColumn (length bits)) (λ _. pagesAfter strict file bits)
 
 -- totals
 
@@ -72,18 +75,25 @@ unfoldable pub elementsOf : List PageRow → ℕ
 elementsOf [] = 0
 elementsOf (p ∷ ps) = p .elements + elementsOf ps
 
--- the totals agree: for the first column on field f, from column c on, if there is one and its type is known
+-- a column's elements are as many as the cluster has entries, where its type is known
+abbrev pub agrees : ℕ → ℕ → ℕ → Bool
+agrees entries type elements = pick (known type) (eqb elements entries) true
+
+-- the totals agree for the first column on field f, if there is one
 unfoldable pub totalOf : ℕ → ℕ → List ColumnRow → List (List PageRow) → Bool
 totalOf entries f [] pss = true
 totalOf entries f (c ∷ cs) [] = true
 totalOf entries f (c ∷ cs) (ps ∷ pss) =
     pick (eqb (c .field .0) f)
-    (pick (known (c .«column_type»)) (eqb (elementsOf ps) entries) true)
+    (agrees entries (c .«column_type») (elementsOf ps))
     (totalOf entries f cs pss)
 
--- a top-level field with neither flag
+-- field i, with such a parent and flags, is a top-level field with neither flag
+abbrev pub counts : ℕ → ℕ → ℕ → Bool
+counts i parent flags = both (eqb parent i) (eqb flags 0)
+
 abbrev pub totalled : ℕ → FieldRow → Bool
-totalled i r = both (eqb (r .head .parent .0) i) (eqb (r .head .flags) 0)
+totalled i r = counts i (r .head .parent .0) (r .head .flags)
 
 -- the totals of all fields from number i on
 unfoldable pub totals : ℕ → List ColumnRow → List (List PageRow) → ℕ → List FieldRow → Bool

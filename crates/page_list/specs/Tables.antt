@@ -7,6 +7,7 @@ use lib.ListN.{length}
 use lib.Dec.{leb}
 use Rattle.numbers.specs.Choice.{pick}
 use Rattle.numbers.specs.Rows.{flat, over}
+use Rattle.wire.specs.Outcome.{Outcome, acceptedWith, refusedIn}
 use Rattle.header.specs.Tables.{headerOf, bit}
 use Rattle.header.specs.Beside.{Beside, read, refusal, beside}
 use Rattle.page_list.specs.PageList.{pagesOf, pageListOf}
@@ -35,6 +36,16 @@ unfoldable pub answer : ℕ → Beside (List (List PageRow)) → PageListAnswer
 answer n (read pss) = pick (roomFor n pss) (Accepted (pagesOf pss)) (Refused 3 20)
 answer n (refusal k r) = Refused k r
 
+-- the answer in document 01's terms: the envelope and the number of a refusal, and the count of pages
+abbrev pub outcomeOf : PageListAnswer → Outcome
+outcomeOf (Accepted pages) = acceptedWith (pages ∷ [])
+outcomeOf (Refused k r) = refusedIn k r 1
+
+-- what the answer reports, for a lent table of n words
+unfoldable pub reported : ℕ → Beside (List (List PageRow)) → Outcome
+reported n (read pss) = pick (roomFor n pss) (acceptedWith (pagesOf pss ∷ [])) (refusedIn 3 20 1)
+reported n (refusal k r) = refusedIn k r 1
+
 -- the lent table after the call: the words in front where the page list is accepted, else as it was
 unfoldable pub written : ℕ → List ℕ → Beside (List (List PageRow)) → List ℕ
 written n old (read pss) = pick (roomFor n pss) (over (pageTable pss) old) old
@@ -43,4 +54,5 @@ written n old (refusal k r) = old
 -- all that a call leaves, for a page list read beside its header and a lent table
 pub record Answered (x : Beside (List (List PageRow))) (p₀ p : List ℕ) (r : PageListAnswer) : Type 0 where
   pub answers : r ≡ answer (length p₀) x
+  pub reports : outcomeOf r ≡ reported (length p₀) x
   pub pagesAre : p ≡ written (length p₀) p₀ x

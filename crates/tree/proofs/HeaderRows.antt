@@ -6,7 +6,7 @@ use mathlib.Core.Path.{_≡_, refl, sym, subst}
 use lib.ListN.{length}
 use Rattle.numbers.specs.Choice.{pick}
 use Rattle.wire.specs.Reading.{Rule, _>>=_, give, number, tested, string, below, listed}
-use Rattle.header.specs.Header.{repetitive, repetition, fieldHead, fieldTexts, field, sized, column, aliasable, alias}
+use Rattle.records.specs.Records.{repetitive, repetition, fieldHead, fieldTexts, field, sized, column, aliasable, alias}
 use Rattle.tree.specs.Shape.{Shape, Law, bare, numberShape, NoVerdict, stringShape, chars, thenShape}
 use Rattle.tree.specs.HeaderTree.{textsContent, fieldContent, repetitionShape, headTuple, tupleHead, headShape, stringsTuple, tupleStrings, stringsShape, fieldTuple, tupleField, fieldShape, columnTuple, tupleColumn, columnShape, aliasTuple, tupleAlias, aliasShape}
 use Rattle.tree.proofs.Simple.{plain-law, number-law, string-law, nothing-law, next, seen-law}

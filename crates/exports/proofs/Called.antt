@@ -1,0 +1,163 @@
+-- What an exported call leaves, from what the call below it left.
+use Prim.Native.Nat.{ℕ, _≤_, _<_}
+use mathlib.Core.Path.{_≡_, refl, ap, sym, _∙_}
+use mathlib.Core.List.{List, [], _∷_}
+use mathlib.Core.Bool.{Bool, true, false}
+use native.Mathlib.Omega.{arith}
+use lib.ListN.{length, set}
+use borrow.Author.Tests.{le-leb, lt-leb}
+use Rattle.numbers.specs.Choice.{both}
+use Rattle.numbers.specs.Rows.{put, over}
+use Rattle.wire.specs.Reading.{Step}
+use Rattle.wire.proofs.Loops.{over-put}
+use Rattle.column_type.specs.Types.{known}
+use Rattle.header.specs.Header.{Header}
+use Rattle.header.specs.Beside.{Beside}
+use Rattle.header.specs.Tables.{Answered}
+use Rattle.header.specs.declared.HeaderAnswer.{HeaderAnswer}
+use Rattle.header.specs.declared.HeaderAnswer.the-variants.{Accepted as HeaderAccepted, Refused as HeaderRefused}
+use Rattle.footer.specs.Footer.{Footer}
+use Rattle.footer.specs.Tables.{Answered as AnsweredFooter}
+use Rattle.footer.specs.declared.FooterAnswer.{FooterAnswer}
+use Rattle.footer.specs.declared.FooterAnswer.the-variants.{Accepted as FooterAccepted, Refused as FooterRefused}
+use Rattle.page_list.specs.Tables.{Answered as AnsweredPageList}
+use Rattle.page_list.specs.declared.PageRow.{PageRow}
+use Rattle.page_list.specs.declared.PageListAnswer.{PageListAnswer}
+use Rattle.page_list.specs.declared.PageListAnswer.the-variants.{Accepted as PageListAccepted, Refused as PageListRefused}
+use Rattle.page.specs.Page.{Outcome, readable, refuse, decodeOutcome, decoded, encodeOutcome, encoded}
+use Rattle.exports.specs.Results.{given, shortResult, HandsOver}
+use Rattle.exports.specs.Calls.{headerCode, headerResult, HeaderCall, footerCode, footerResult, FooterCall, pageListCode, pageListResult, PageListCall, pageCode, asks, EncodeCall}
+
+-- a result with room for n words, and one without
+
+given-room : {A : Type 0} (n : ℕ) (w : List ℕ) {a : A} (b d : A) → n ≤ length w → a ≡ b → a ≡ given n w b d
+unfolding given
+given-room n w b d fits e = rw (le-leb n (length w) fits) e
+
+given-short : {A : Type 0} (n : ℕ) (w : List ℕ) (b d : A) → length w < n → d ≡ given n w b d
+unfolding given
+given-short n w b d short = rw (lt-leb n (length w) short)
+
+hands-nothing : (n : ℕ) (code : ℕ) (words w : List ℕ) → length w < n → HandsOver n code words w w shortResult
+hands-nothing n code words w short = record { answers = given-short n w _ _ short; resultIs = given-short n w _ _ short }
+
+-- n words that are put in front are handed over
+hands-over : (n : ℕ) {code r : ℕ} {words w₀ w : List ℕ} → n ≤ length w₀ → length words ≡ n → r ≡ code → w ≡ put w₀ 0 words → HandsOver n code words w₀ w r
+hands-over n {words = words} {w₀ = w₀} fits long is stored =
+    record {
+      answers = given-room n w₀ _ _ fits is;
+      resultIs = given-room n w₀ _ _ fits (stored ∙ over-put [] words w₀ (omega arith));
+    }
+
+-- Headers.
+
+header-words : (r : HeaderAnswer) → length (headerResult r) ≡ 7
+header-words (HeaderAccepted t) = refl
+header-words (HeaderRefused n) = refl
+
+pub header-short : (x : Step Header) (f c a w : List ℕ) → length w < 7 → HeaderCall x f f c c a a w w shortResult
+header-short x f c a w short =
+    record {
+      handsOver = hands-nothing 7 _ _ w short;
+      fieldsAre = given-short 7 w _ _ short;
+      columnsAre = given-short 7 w _ _ short;
+      aliasesAre = given-short 7 w _ _ short;
+    }
+
+pub header-called : {x : Step Header} {f₀ f c₀ c a₀ a w₀ w words : List ℕ} {r : HeaderAnswer} {code : ℕ} → 7 ≤ length w₀ → Answered x f₀ f c₀ c a₀ a r
+    → words ≡ headerResult r → w ≡ put w₀ 0 words → code ≡ headerCode r → HeaderCall x f₀ f c₀ c a₀ a w₀ w code
+header-called {w₀ = w₀} {r = r} fits left are stored is =
+    let answer = left .answers in
+    record {
+      handsOver = hands-over 7 fits (ap (λ (q : HeaderAnswer). length (headerResult q)) (sym answer) ∙ header-words r) (is ∙ ap headerCode answer) (stored ∙ ap (put w₀ 0) (are ∙ ap headerResult answer));
+      fieldsAre = given-room 7 w₀ _ _ fits (left .fieldsAre);
+      columnsAre = given-room 7 w₀ _ _ fits (left .columnsAre);
+      aliasesAre = given-room 7 w₀ _ _ fits (left .aliasesAre);
+    }
+
+-- Footers.
+
+footer-words : (r : FooterAnswer) → length (footerResult r) ≡ 2
+footer-words (FooterAccepted clusters metadata) = refl
+footer-words (FooterRefused envelope number) = refl
+
+pub footer-short : (x : Beside Footer) (c m w : List ℕ) → length w < 2 → FooterCall x c c m m w w shortResult
+footer-short x c m w short =
+    record { handsOver = hands-nothing 2 _ _ w short; clustersAre = given-short 2 w _ _ short; metadataAre = given-short 2 w _ _ short }
+
+pub footer-called : {x : Beside Footer} {c₀ c m₀ m w₀ w words : List ℕ} {r : FooterAnswer} {code : ℕ} → 2 ≤ length w₀ → AnsweredFooter x c₀ c m₀ m r
+    → words ≡ footerResult r → w ≡ put w₀ 0 words → code ≡ footerCode r → FooterCall x c₀ c m₀ m w₀ w code
+footer-called {w₀ = w₀} {r = r} fits left are stored is =
+    let answer = left .answers in
+    record {
+      handsOver = hands-over 2 fits (ap (λ (q : FooterAnswer). length (footerResult q)) (sym answer) ∙ footer-words r) (is ∙ ap footerCode answer) (stored ∙ ap (put w₀ 0) (are ∙ ap footerResult answer));
+      clustersAre = given-room 2 w₀ _ _ fits (left .clustersAre);
+      metadataAre = given-room 2 w₀ _ _ fits (left .metadataAre);
+    }
+
+-- Page lists.
+
+page-list-words : (r : PageListAnswer) → length (pageListResult r) ≡ 1
+page-list-words (PageListAccepted pages) = refl
+page-list-words (PageListRefused envelope number) = refl
+
+pub page-list-short : (x : Beside (List (List PageRow))) (p w : List ℕ) → length w < 1 → PageListCall x p p w w shortResult
+page-list-short x p w short = record { handsOver = hands-nothing 1 _ _ w short; pagesAre = given-short 1 w _ _ short }
+
+pub page-list-called : {x : Beside (List (List PageRow))} {p₀ p w₀ w words : List ℕ} {r : PageListAnswer} {code : ℕ} → 1 ≤ length w₀ → AnsweredPageList x p₀ p r
+    → words ≡ pageListResult r → w ≡ put w₀ 0 words → code ≡ pageListCode r → PageListCall x p₀ p w₀ w code
+page-list-called {w₀ = w₀} {r = r} fits left are stored is =
+    let answer = left .answers in
+    record {
+      handsOver = hands-over 1 fits (ap (λ (q : PageListAnswer). length (pageListResult q)) (sym answer) ∙ page-list-words r) (is ∙ ap pageListCode answer) (stored ∙ ap (put w₀ 0) (are ∙ ap pageListResult answer));
+      pagesAre = given-room 1 w₀ _ _ fits (left .pagesAre);
+    }
+
+-- Pages.
+
+-- a type that no 16 bits hold is unknown, and refused before all else
+module _ (t : ℕ) (high : 65535 < t) where
+  unreadable : readable t ≡ false
+  unfolding known
+  unreadable = rw (le-leb 1 t (omega arith), lt-leb t 28 (omega arith))
+
+  pub high-decode : (n : ℕ) (checksum : Bool) (page : List ℕ) (words start : ℕ) → decodeOutcome t n checksum page words start ≡ refuse 23
+  unfolding decodeOutcome
+  high-decode n checksum page words start = rw unreadable
+
+  pub high-decoded : (n : ℕ) (checksum : Bool) (page old : List ℕ) (start : ℕ) → old ≡ decoded t n checksum page old start
+  unfolding decoded
+  high-decoded n checksum page old start = rw (high-decode n checksum page (length old) start)
+
+  pub high-encode : (n : ℕ) (checksum : Bool) (words : List ℕ) (start room : ℕ) → encodeOutcome t n checksum words start room ≡ refuse 23
+  unfolding encodeOutcome
+  high-encode n checksum words start room = rw unreadable
+
+  pub high-encoded : (n : ℕ) (checksum : Bool) (words : List ℕ) (start : ℕ) (old : List ℕ) → old ≡ encoded t n checksum words start old
+  unfolding encoded
+  high-encoded n checksum words start old = rw (high-encode n checksum words start (length old))
+
+-- one word that is stored is handed over
+set-front : (w : List ℕ) (v : ℕ) → 1 ≤ length w → set w 0 v ≡ over (v ∷ []) w
+set-front [] v fits = absurd (omega arith)
+set-front (x ∷ xs) v fits = refl
+
+hands-word : {code v r : ℕ} {w : List ℕ} → 1 ≤ length w → r ≡ code → HandsOver 1 code (v ∷ []) w (set w 0 v) r
+hands-word {v = v} {w = w} fits is = record { answers = given-room 1 w _ _ fits is; resultIs = given-room 1 w _ _ fits (set-front w v fits) }
+
+pub encode-short : (t n checksum : ℕ) (words : List ℕ) (start : ℕ) (p w : List ℕ) → length w < 1 → EncodeCall t n checksum words start p p w w shortResult
+encode-short t n checksum words start p w short = record { handsOver = hands-nothing 1 _ _ w short; pageIs = given-short 1 w _ _ short }
+
+pub encode-called : {t n checksum : ℕ} {words : List ℕ} {start : ℕ} {p₀ p w : List ℕ} {o : Outcome} {count code : ℕ} → 1 ≤ length w
+    → o ≡ encodeOutcome t n (asks checksum) words start (length p₀) → p ≡ encoded t n (asks checksum) words start p₀ → count ≡ o .count → code ≡ pageCode o
+    → EncodeCall t n checksum words start p₀ p w (set w 0 count) code
+encode-called {p₀ = p₀} {w = w} fits outcome page counts is =
+    let count = counts ∙ ap (λ (q : Outcome). q .count) outcome in
+    record {
+      handsOver = rw (← count) (hands-word fits (is ∙ ap pageCode outcome));
+      pageIs = given-room 1 w _ _ fits page;
+    }
+
+pub encode-high : (t n checksum : ℕ) (words : List ℕ) (start : ℕ) (p w : List ℕ) → 65535 < t → 1 ≤ length w → EncodeCall t n checksum words start p p w (set w 0 0) 1047
+encode-high t n checksum words start p w high fits =
+    encode-called fits (sym (high-encode t high n (asks checksum) words start (length p))) (high-encoded t high n (asks checksum) words start p) refl refl

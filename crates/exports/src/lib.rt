@@ -1,0 +1,135 @@
+// The calls of the library under C names: include/rntuple_check.h declares them. A slice is passed as a pointer and a length.
+mod answers;
+
+ghost use mathlib.Core.Path.{_≡_};
+ghost use lib.ListN.{length};
+ghost use Rattle.checksum.specs.Crc.{crc32};
+ghost use Rattle.header.specs.Tables.{headerOf};
+ghost use Rattle.footer.specs.Tables.{footerBeside};
+ghost use Rattle.page_list.specs.Tables.{pageListBeside};
+ghost use Rattle.page.specs.Page.{decodeOutcome, decoded};
+ghost use Rattle.exports.specs.Calls.{HeaderCall, FooterCall, PageListCall, EncodeCall, pageCode, asks};
+
+#[no_mangle]
+pub extern "C" fn rnt_crc32(bytes: &[u8]) -> u32
+    ensures { λ r. ⌜ r ≡ crc32 (now (bytes .entry)) ⌝ }
+{
+    checksum::crc32(bytes)
+}
+
+#[no_mangle]
+pub extern "C" fn rnt_read_header(
+    envelope: &[u8],
+    fields: &mut [u64],
+    columns: &mut [u64],
+    aliases: &mut [u64],
+    result: &mut [u64],
+) -> u32
+    ensures { λ r. ⌜ HeaderCall (headerOf (now (envelope .entry))) (now (fields .entry)) (now (fields .exit)) (now (columns .entry)) (now (columns .exit)) (now (aliases .entry)) (now (aliases .exit)) (now (result .entry)) (now (result .exit)) r ⌝ }
+{
+    if result.len() < 7 {
+        return 4294967295;
+    }
+    let answer = header::read_header(envelope, fields, columns, aliases);
+    let words = answers::header_result(answer);
+    wire::put_words(result, 0, &words);
+    answers::header_code(answer)
+}
+
+#[no_mangle]
+pub extern "C" fn rnt_read_footer(
+    header: &[u8],
+    footer: &[u8],
+    file_length: u64,
+    clusters: &mut [u64],
+    metadata: &mut [u64],
+    result: &mut [u64],
+) -> u32
+    ensures { λ r. ⌜ FooterCall (footerBeside (now (header .entry)) (now (footer .entry)) «file_length») (now (clusters .entry)) (now (clusters .exit)) (now (metadata .entry)) (now (metadata .exit)) (now (result .entry)) (now (result .exit)) r ⌝ }
+{
+    if result.len() < 2 {
+        return 4294967295;
+    }
+    let answer = footer::read_footer(header, footer, file_length, clusters, metadata);
+    let words = answers::footer_result(answer);
+    wire::put_words(result, 0, &words);
+    answers::footer_code(answer)
+}
+
+#[no_mangle]
+pub extern "C" fn rnt_read_page_list(
+    header: &[u8],
+    page_list: &[u8],
+    entries: u64,
+    file_length: u64,
+    pages: &mut [u64],
+    result: &mut [u64],
+) -> u32
+    ensures { λ r. ⌜ PageListCall (pageListBeside (now (header .entry)) (now («page_list» .entry)) entries «file_length») (now (pages .entry)) (now (pages .exit)) (now (result .entry)) (now (result .exit)) r ⌝ }
+{
+    if result.len() < 1 {
+        return 4294967295;
+    }
+    let answer = page_list::read_page_list(header, page_list, entries, file_length, pages);
+    let words = answers::page_list_result(answer);
+    wire::put_words(result, 0, &words);
+    answers::page_list_code(answer)
+}
+
+// A column type above 65535 is unknown, which is refused before all else.
+#[no_mangle]
+pub extern "C" fn rnt_decode_page(
+    column_type: u32,
+    elements: u64,
+    checksum: u32,
+    page: &[u8],
+    words: &mut [u64],
+    start: u64,
+) -> u32
+    ensures answers { λ r. ⌜ r ≡ pageCode (decodeOutcome «column_type» elements (asks checksum) (now (page .entry)) (length (now (words .entry))) start) ⌝ }
+    ensures leaves { λ _. ⌜ now (words .exit) ≡ decoded «column_type» elements (asks checksum) (now (page .entry)) (now (words .entry)) start ⌝ }
+{
+    if 65535 < column_type {
+        return 1047;
+    }
+    let answer = page::decode_page(
+        column_type as u16,
+        elements as usize,
+        checksum != 0,
+        page,
+        words,
+        start as usize,
+    );
+    answers::page_code(answer)
+}
+
+#[no_mangle]
+pub extern "C" fn rnt_encode_page(
+    column_type: u32,
+    elements: u64,
+    checksum: u32,
+    words: &[u64],
+    start: u64,
+    page: &mut [u8],
+    result: &mut [u64],
+) -> u32
+    ensures { λ r. ⌜ EncodeCall «column_type» elements checksum (now (words .entry)) start (now (page .entry)) (now (page .exit)) (now (result .entry)) (now (result .exit)) r ⌝ }
+{
+    if result.len() < 1 {
+        return 4294967295;
+    }
+    if 65535 < column_type {
+        result[0] = 0;
+        return 1047;
+    }
+    let answer = page::encode_page(
+        column_type as u16,
+        elements as usize,
+        checksum != 0,
+        words,
+        start as usize,
+        page,
+    );
+    result[0] = answers::page_count(answer);
+    answers::page_code(answer)
+}

@@ -1,0 +1,4 @@
+pub mod ClusterLaws
+pub mod OpeningLaws
+pub mod PayloadLaws
+pub mod ReadLaws

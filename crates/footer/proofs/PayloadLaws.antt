@@ -1,0 +1,56 @@
+-- The payload: what a scan of it says, from what its parts read.
+use Prim.Native.Nat.{ℕ}
+use mathlib.Core.Path.{_≡_, sym}
+use mathlib.Core.Bool.{Bool, true, false}
+use mathlib.Core.List.{List}
+use lib.ListN.{length}
+use Rattle.wire.specs.declared.Fault.{Fault}
+use Rattle.wire.specs.declared.Kind.the-variants.{Spare}
+use Rattle.wire.specs.Envelope.{whole}
+use Rattle.wire.specs.Reading.{found, refused, _>>=_, after, give, counted, rowsOf, fault, spare}
+use Rattle.wire.proofs.Laws.{counted-found, counted-refused}
+use Rattle.footer.specs.Footer.{payload, opening, clusterList, linkList}
+use Rattle.footer.specs.Answers.{Scanned}
+use Rattle.footer.proofs.OpeningLaws.{opening-then}
+
+module _ (checksum file : ℕ) (strict : Bool) (s : List ℕ) where
+  payload-is : payload checksum file strict s 4 ≡ after (λ _. clusterList strict file >>= (λ clusters. linkList strict file >>= (λ metadata. give (record { clusters = clusters; metadata = metadata })))) s (opening checksum strict s 4)
+  unfolding payload
+  payload-is = opening-then checksum strict (clusterList strict file >>= (λ clusters. linkList strict file >>= (λ metadata. give (record { clusters = clusters; metadata = metadata })))) s 4
+
+  pub no-opening : {f : Fault} → opening checksum strict s 4 ≡ refused f → whole strict (payload checksum file strict) s 4 ≡ refused f
+  no-opening o = rw (payload-is, o)
+
+  module _ {ca : ℕ} (o : opening checksum strict s 4 ≡ found tt ca) where
+    clusters-refused : {f : Fault} → clusterList strict file s ca ≡ refused f → whole strict (payload checksum file strict) s 4 ≡ refused f
+    clusters-refused e = rw (payload-is, o, e)
+
+    pub no-clusters : {f : Fault} → refused f ≡ counted (clusterList strict file s ca) → whole strict (payload checksum file strict) s 4 ≡ refused f
+    no-clusters e = clusters-refused (counted-refused (clusterList strict file s ca) (sym e))
+
+    module _ {n ma : ℕ} (c : found n ma ≡ counted (clusterList strict file s ca)) where
+      the-clusters : (clusterList strict file s ca ≡ found (rowsOf (clusterList strict file s ca)) ma) × (length (rowsOf (clusterList strict file s ca)) ≡ n)
+      the-clusters = counted-found (clusterList strict file s ca) (sym c)
+
+      pub no-metadata : {f : Fault} → refused f ≡ counted (linkList strict file s ma) → whole strict (payload checksum file strict) s 4 ≡ refused f
+      no-metadata e = rw (payload-is, o, the-clusters .0, counted-refused (linkList strict file s ma) (sym e))
+
+      module _ {m p : ℕ} (l : found m p ≡ counted (linkList strict file s ma)) where
+        the-metadata : (linkList strict file s ma ≡ found (rowsOf (linkList strict file s ma)) p) × (length (rowsOf (linkList strict file s ma)) ≡ m)
+        the-metadata = counted-found (linkList strict file s ma) (sym l)
+
+        payload-found : payload checksum file strict s 4 ≡ found (record { clusters = rowsOf (clusterList strict file s ca); metadata = rowsOf (linkList strict file s ma) }) p
+        payload-found = rw (payload-is, o, the-clusters .0, the-metadata .0)
+
+        pub spare-bytes : spare strict p (length s) ≡ true → whole strict (payload checksum file strict) s 4 ≡ refused (fault 11 Spare p)
+        spare-bytes e = rw (payload-found, e)
+
+        pub scanned : spare strict p (length s) ≡ false → Scanned checksum file strict s (record { «clusters_at» = ca; clusters = n; «metadata_at» = ma; metadata = m })
+        scanned e =
+            record {
+              was = rw (payload-found, e);
+              clustersRead = rw (the-clusters .0);
+              metadataRead = rw (the-metadata .0);
+              clustersCounted = the-clusters .1;
+              metadataCounted = the-metadata .1;
+            }

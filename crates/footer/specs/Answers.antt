@@ -1,0 +1,44 @@
+-- What the code's answers say, as steps of a rule.
+use Prim.Native.Nat.{ℕ}
+use mathlib.Core.List.{List}
+use mathlib.Core.Path.{_≡_}
+use mathlib.Core.Bool.{Bool, true}
+use lib.ListN.{length}
+use Rattle.wire.specs.Reading.{Step, found, refused, accepted, rowsOf}
+use Rattle.wire.specs.Envelope.{whole}
+use Rattle.footer.specs.Footer.{Footer, payload, clusterList, linkList}
+use Rattle.footer.specs.declared.Link.{Link}
+use Rattle.footer.specs.declared.links.LinkStep.{LinkStep}
+use Rattle.footer.specs.declared.links.LinkStep.the-variants.{Found as LinkFound, Refused as LinkRefused}
+use Rattle.footer.specs.declared.ClusterRow.{ClusterRow}
+use Rattle.footer.specs.declared.clusters.ClusterStep.{ClusterStep}
+use Rattle.footer.specs.declared.clusters.ClusterStep.the-variants.{Found as ClusterFound, Refused as ClusterRefused}
+use Rattle.footer.specs.declared.lists.FooterScan.{FooterScan}
+use Rattle.footer.specs.declared.lists.ScanStep.{ScanStep}
+use Rattle.footer.specs.declared.lists.ScanStep.the-variants.{Found as ScanFound, Refused as ScanRefused}
+
+abbrev pub linkStep : LinkStep → Step Link
+linkStep (LinkFound a p) = found a p
+linkStep (LinkRefused f) = refused f
+
+abbrev pub clusterStep : ClusterStep → Step ClusterRow
+clusterStep (ClusterFound a p) = found a p
+clusterStep (ClusterRefused f) = refused f
+
+-- the footer whose lists stand where a scan says
+abbrev pub scannedFooter : Bool → ℕ → List ℕ → FooterScan → Footer
+scannedFooter strict file s scan =
+    record { clusters = rowsOf (clusterList strict file s (scan .«clusters_at»)); metadata = rowsOf (linkList strict file s (scan .«metadata_at»)) }
+
+-- a payload is the footer whose lists stand where a scan says, and each has as many rows as it says
+pub record Scanned (checksum file : ℕ) (strict : Bool) (s : List ℕ) (scan : FooterScan) : Type 0 where
+  pub was : whole strict (payload checksum file strict) s 4 ≡ found (scannedFooter strict file s scan) (length s)
+  pub clustersRead : accepted (clusterList strict file s (scan .«clusters_at»)) ≡ true
+  pub metadataRead : accepted (linkList strict file s (scan .«metadata_at»)) ≡ true
+  pub clustersCounted : length (scannedFooter strict file s scan .clusters) ≡ scan .clusters
+  pub metadataCounted : length (scannedFooter strict file s scan .metadata) ≡ scan .metadata
+
+-- what a scan of a payload says of it
+abbrev pub Scans : ℕ → ℕ → Bool → List ℕ → ScanStep → Type 0
+Scans checksum file strict s (ScanFound scan) = Scanned checksum file strict s scan
+Scans checksum file strict s (ScanRefused f) = whole strict (payload checksum file strict) s 4 ≡ refused f

@@ -1,0 +1,4 @@
+pub mod Walk
+pub mod Held
+pub mod Numbers
+pub mod TextLaws

@@ -1,0 +1,17 @@
+use mathlib.Core.Path.{ap, _∙_}
+use Rattle.wire.specs.Reading.{judged, listed}
+use borrow.Author.Needs.{needs}
+use Rattle.records.proofs.tested.listed_4.Statement.{statement}
+use Rattle.records.proofs.tested.listed_4.Tie as tie
+
+number-4-requires : tie.Need-number-4-requires
+number-4-requires c κs = search needs
+
+at-most-requires : tie.Need-at-most-requires
+at-most-requires c κs = search needs
+
+returns : tie.Need-returns
+returns c = c .at-most .ensures ∙ ap (judged (listed (c .before .before .before .args .most)) _) (c .before .number-4 .ensures)
+
+pub listed-4-spec : {M : Type 1} → statement M
+listed-4-spec = tie.close (tie.spec number-4-requires at-most-requires returns)

@@ -1,0 +1,5 @@
+pub mod LineLaws
+pub mod DecimalLaws
+pub mod RoomLaws
+pub mod Examples
+pub mod NumberLaws

@@ -1,0 +1,56 @@
+-- The line that is printed for a header.
+use Prim.Native.Nat.{ℕ, zero, suc, _+_, _/_, _%_}
+use Prim.Native.Char.{code}
+use Prim.Native.String.{String, [] as nothing, _∷_ as _followed-by_}
+use mathlib.Core.List.{List, [], _∷_, _++_}
+use lib.ListN.{length, take, drop, replicate}
+use lib.Dec.{ltb, leb}
+use Rattle.numbers.specs.Choice.{pick}
+use Rattle.numbers.specs.Rows.{over}
+use Rattle.header.specs.declared.HeaderAnswer.{HeaderAnswer}
+use Rattle.header.specs.declared.HeaderAnswer.the-variants.{Accepted, Refused}
+use Rattle.report.specs.declared.Line.{Line}
+
+-- the bytes of a text in ASCII
+abbrev pub text : String → List ℕ
+text nothing = []
+text (c followed-by s) = code c ∷ text s
+
+-- a number in decimal digits, none of them a leading zero; `steps` bounds how often it is divided
+unfoldable pub decimalBy : ℕ → ℕ → List ℕ
+decimalBy zero n = (48 + n) ∷ []
+decimalBy (suc steps) n = pick (ltb n 10) ((48 + n) ∷ []) (decimalBy steps (n / 10) ++ ((48 + n % 10) ∷ []))
+
+-- a number is divided by ten less often than it counts
+abbrev pub decimal : ℕ → List ℕ
+decimal n = decimalBy n n
+
+unfoldable pub acceptedLine : ℕ → ℕ → ℕ → List ℕ
+acceptedLine fields columns aliases =
+    text "1 accepted " ++ decimal fields ++ text " fields " ++ decimal columns ++ text " columns " ++ decimal aliases ++ text " aliases\n"
+
+unfoldable pub refusedLine : ℕ → List ℕ
+refusedLine number = text "1 refused " ++ decimal number ++ text "\n"
+
+unfoldable pub longerLine : List ℕ
+longerLine = text "1 longer than 65536\n"
+
+-- the whole line for the answer of the header's reader
+abbrev pub headerLine : HeaderAnswer → List ℕ
+headerLine (Accepted tables) = acceptedLine (tables .fields) (tables .columns) (tables .aliases)
+headerLine (Refused number) = refusedLine number
+
+-- how many bytes a line has room for: 97 are the most, with three numbers of 20 digits
+abbrev pub room : ℕ
+room = 128
+
+-- a line of these bytes: they stand in front, and zeros after them
+abbrev pub lineOf : List ℕ → Line
+lineOf bytes = record { bytes = over bytes (replicate room 0); len = length bytes }
+
+-- a line with bytes added to it, where there is room for them
+unfoldable pub added : Line → List ℕ → Line
+added line bytes =
+    pick (leb (line .len + length bytes) room)
+    (record { bytes = take (line .len) (line .bytes) ++ bytes ++ drop (line .len + length bytes) (line .bytes); len = line .len + length bytes })
+    line
