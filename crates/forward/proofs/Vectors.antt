@@ -15,14 +15,14 @@ use Rattle.header.specs.Header.{Header, columnsAfter, aliasesAfter, lists, payl
 use Rattle.records.specs.Records.{repetition, fieldHead, fieldTexts, field, column, alias, texts}
 use Rattle.header.specs.Parents.{meets, allReach}
 use Rattle.numbers.specs.Rows.{flat, flatBy}
-use Rattle.header.specs.Tables.{headerOf, chained, answer, written, dark, Answered}
+use Rattle.header.specs.Tables.{headerOf, chained, answer, reported, reportedTexts, written, dark, Answered}
 use Rattle.records.specs.Words.{fieldWords, columnWords, aliasWords}
 use Rattle.header.specs.declared.HeaderTables.{HeaderTables}
 use Rattle.header.specs.declared.HeaderAnswer.the-variants.{Accepted}
 use Rattle.footer.specs.Footer.{footerOf, link, cluster, entriesOf, payload as footer-payload}
-use Rattle.footer.specs.Tables.{footerBeside, answer as footer-answer, written as footer-written, Answered as AnsweredFooter}
+use Rattle.footer.specs.Tables.{footerBeside, answer as footer-answer, reported as footer-reported, written as footer-written, Answered as AnsweredFooter}
 use Rattle.footer.specs.declared.FooterAnswer.the-variants.{Accepted as AcceptedFooter}
-use Rattle.page_list.specs.Tables.{pageListBeside, answer as pages-answer, written as pages-written, Answered as AnsweredPages}
+use Rattle.page_list.specs.Tables.{pageListBeside, answer as pages-answer, reported as pages-reported, written as pages-written, Answered as AnsweredPages}
 use Rattle.page_list.specs.declared.PageListAnswer.the-variants.{Accepted as AcceptedPages}
 use Rattle.page_list.specs.PageList.{pageListOf, summed, pages, page, pagesOf, totals, totalOf, elementsOf, payload as page-payload}
 use Rattle.tree.specs.Bytes.{spelled}
@@ -207,8 +207,8 @@ abbrev pub header-answer : HeaderTables
 header-answer = record { texts = one .texts; fields = 1; columns = 1; aliases = 0 }
 
 pub header-call : Answered (headerOf field-header) lent-fields left-fields lent-columns left-columns [] [] (Accepted header-answer)
-unfolding answer written fieldWords columnWords aliasWords flat flatBy dark known meets
-header-call = rw field-header-read (record { answers = refl; fieldsAre = refl; columnsAre = refl; aliasesAre = refl })
+unfolding answer reported reportedTexts written fieldWords columnWords aliasWords flat flatBy dark known meets
+header-call = rw field-header-read (record { answers = refl; reports = refl; reportsTexts = refl; fieldsAre = refl; columnsAre = refl; aliasesAre = refl })
 
 abbrev pub lent-clusters : List ℕ
 lent-clusters = 9 ∷ 9 ∷ 9 ∷ 9 ∷ []
@@ -223,8 +223,8 @@ abbrev pub left-links : List ℕ
 left-links = 7 ∷ 0 ∷ 9 ∷ []
 
 pub footer-call : AnsweredFooter (footerBeside field-header cluster-footer 140) lent-clusters left-clusters lent-links left-links (AcceptedFooter 1 1)
-unfolding footerBeside footer-answer footer-written flat
-footer-call = rw (field-header-read, cluster-footer-read) (record { answers = refl; clustersAre = refl; metadataAre = refl })
+unfolding footerBeside footer-answer footer-reported footer-written flat
+footer-call = rw (field-header-read, cluster-footer-read) (record { answers = refl; reports = refl; clustersAre = refl; metadataAre = refl })
 
 abbrev pub lent-pages : List ℕ
 lent-pages = 9 ∷ 9 ∷ 9 ∷ 9 ∷ 9 ∷ 9 ∷ []
@@ -233,5 +233,5 @@ abbrev pub left-pages : List ℕ
 left-pages = 0 ∷ 3 ∷ 0 ∷ 24 ∷ 50 ∷ 9 ∷ []
 
 pub page-list-call : AnsweredPages (pageListBeside field-header one-page-list 3 74) lent-pages left-pages (AcceptedPages 1)
-unfolding pageListBeside pages-answer pages-written flat pagesOf
-page-list-call = rw (field-header-read, one-page-list-read) (record { answers = refl; pagesAre = refl })
+unfolding pageListBeside pages-answer pages-reported pages-written flat pagesOf
+page-list-call = rw (field-header-read, one-page-list-read) (record { answers = refl; reports = refl; pagesAre = refl })
