@@ -4,6 +4,9 @@ mod column;
 mod field;
 mod tested;
 
+use alias::alias_at;
+use column::column_at;
+use field::field_at;
 use wire::Fault;
 use wire::FrameStep;
 use wire::Kind;
@@ -89,11 +92,7 @@ pub fn field_record(s: &[u8], strict: bool, at: usize, fields: u64) -> FieldStep
     ensures { λ r. ⌜ fieldStep r ≡ recordOf strict (field fields) (now (s .entry)) at ⌝ }
 {
     match wire::record_head(s, at) {
-        FrameStep::Found(start, stop) => match field::field_at(
-            wire::up_to(s, stop),
-            start,
-            fields,
-        ) {
+        FrameStep::Found(start, stop) => match field_at(wire::up_to(s, stop), start, fields) {
             FieldStep::Found(row, past) => {
                 if wire::has_spare(strict, past, stop) {
                     FieldStep::Refused(wire::fault_at(11, Kind::Spare, past))
@@ -112,11 +111,7 @@ pub fn column_record(s: &[u8], strict: bool, at: usize, fields: u64) -> ColumnSt
     ensures { λ r. ⌜ columnStep r ≡ recordOf strict (column fields) (now (s .entry)) at ⌝ }
 {
     match wire::record_head(s, at) {
-        FrameStep::Found(start, stop) => match column::column_at(
-            wire::up_to(s, stop),
-            start,
-            fields,
-        ) {
+        FrameStep::Found(start, stop) => match column_at(wire::up_to(s, stop), start, fields) {
             ColumnStep::Found(row, past) => {
                 if wire::has_spare(strict, past, stop) {
                     ColumnStep::Refused(wire::fault_at(11, Kind::Spare, past))
@@ -135,7 +130,7 @@ pub fn alias_record(s: &[u8], strict: bool, at: usize, flags: &[u64], columns: u
     ensures { λ r. ⌜ aliasStep r ≡ recordOf strict (alias (now (flags .entry)) columns) (now (s .entry)) at ⌝ }
 {
     match wire::record_head(s, at) {
-        FrameStep::Found(start, stop) => match alias::alias_at(
+        FrameStep::Found(start, stop) => match alias_at(
             wire::up_to(s, stop),
             start,
             flags,
