@@ -7,9 +7,9 @@ use native.Mathlib.Omega.{arith}
 use lib.ListN.{length, getD, take}
 use Rattle.numbers.specs.Rows.{flat}
 use Rattle.wire.specs.declared.ListHead.{ListHead}
-use Rattle.wire.specs.Reading.{Step, found, refused, Rule, after, within, items, inItem, recordOf, recordHead, recordBody, listOf, listHead, atMost}
+use Rattle.wire.specs.Reading.{Step, found, refused, Rule, items, inItem, recordOf, recordHead, recordBody, listOf, listHead, atMost}
 use Rattle.wire.proofs.Laws.{never, closed-found}
-use Rattle.wire.proofs.Loops.{Each, list-each, list-is, record-found}
+use Rattle.wire.proofs.Loops.{Each, list-each, list-is, record-found, items-each}
 use Rattle.records.specs.Records.{field, column}
 use Rattle.records.specs.Words.{columnWords}
 use Rattle.records.specs.declared.FieldRow.{FieldRow}
@@ -30,21 +30,6 @@ columns-below strict n s at =
     (λ _ _ t from x p. record-found (λ (r : ColumnRow). r .field .0 < n) strict (column n) t from (λ u at q e. column-numbers n u at e .0))
 
 -- a fact of every row that its rule shows in containers of bytes
-
-each-snoc : {A : Type 0} (P : A → Type 0) (xs : List A) (x : A) → Each P xs → P x → Each P (xs ++ (x ∷ []))
-each-snoc P [] x e p = (p, tt)
-each-snoc P (y ∷ ys) x e p = (e .0, each-snoc P ys x (e .1) p)
-
-module _ {A : Type 0} (P : A → Type 0) (head : ℕ) (r : List A → Rule A) (s : List ℕ) (rule : (done : List A) (at : ℕ) (x : A) (p : ℕ) → r done s at ≡ found x p → P x) where
-  items-each : (n : ℕ) (done : List A) (at : ℕ) {rows : List A} {p : ℕ} → Each P done → items head r n done s at ≡ found rows p → Each P rows
-  unfolding items
-  items-each zero done at {rows} each e = let same : done ≡ rows = cc in rw same at each
-  items-each (suc n) done at {rows} {p} each e = by (λ d a. items-each n d a) (r done s at) refl e
-    where
-      by : ((done : List A) (at : ℕ) → Each P done → items head r n done s at ≡ found rows p → Each P rows) → (x : Step A) → r done s at ≡ x
-          → after (λ x. items head r n (done ++ (x ∷ []))) s (within head (length done) x) ≡ found rows p → Each P rows
-      by more (found x q) g w = more (done ++ (x ∷ [])) q (each-snoc P done x each (rule done at x q g)) w
-      by more (refused f) g w = never w
 
 record-in : {A : Type 0} (P : A → Type 0) (strict : Bool) (r : Rule A) (s : List ℕ) (at : ℕ) {x : A} {p : ℕ}
     → ((stop from q : ℕ) → r (take stop s) from ≡ found x q → P x) → recordOf strict r s at ≡ found x p → P x

@@ -47,23 +47,23 @@ pub record Lists : Type 0 where
 
 -- the list of aliases, after the two others
 unfoldable pub aliasesAfter : Bool → ℕ → List FieldRow → ℕ → List ColumnRow → Rule Lists
-aliasesAfter strict fields-at fields columns-at columns = do
-  aliases-at ← here
+aliasesAfter strict fieldsPlace fields columnsPlace columns = do
+  aliasesPlace ← here
   aliases ← aliasList strict (flagsOf fields) (length columns)
-  give (record { fieldsAt = fields-at; fields = fields; columnsAt = columns-at; columns = columns; aliasesAt = aliases-at; aliases = aliases })
+  give (record { fieldsAt = fieldsPlace; fields = fields; columnsAt = columnsPlace; columns = columns; aliasesAt = aliasesPlace; aliases = aliases })
 
 -- the lists of columns and aliases, after that of fields
 unfoldable pub columnsAfter : Bool → ℕ → List FieldRow → Rule Lists
-columnsAfter strict fields-at fields = do
-  columns-at ← here
+columnsAfter strict fieldsPlace fields = do
+  columnsPlace ← here
   columns ← columnList strict (length fields)
-  aliasesAfter strict fields-at fields columns-at columns
+  aliasesAfter strict fieldsPlace fields columnsPlace columns
 
 unfoldable pub lists : Bool → Rule Lists
 lists strict = do
-  fields-at ← here
+  fieldsPlace ← here
   fields ← fieldList strict
-  columnsAfter strict fields-at fields
+  columnsAfter strict fieldsPlace fields
 
 -- what a header's payload reads
 pub record Header : Type 0 where

@@ -29,20 +29,20 @@ repetition flags = pick (repetitive flags) (number 8) (give 0)
 unfoldable pub fieldHead : ℕ → Rule FieldHead
 fieldHead n = do
   version ← number 4
-  type-version ← number 4
+  typeVersion ← number 4
   parent ← tested 4 (below n)
   role ← tested 2 (listed 4)
   flags ← tested 2 (listed 3)
   times ← repetition flags
-  give (record { «field_version» = version; «type_version» = type-version; parent = record { 0 = parent }; role = role; flags = flags; repetition = times })
+  give (record { «field_version» = version; «type_version» = typeVersion; parent = record { 0 = parent }; role = role; flags = flags; repetition = times })
 
 unfoldable pub fieldTexts : Rule FieldTexts
 fieldTexts = do
   name ← string
-  type-name ← string
-  type-alias ← string
+  typeName ← string
+  typeAlias ← string
   description ← string
-  give (record { name = name; «type_name» = type-name; «type_alias» = type-alias; description = description })
+  give (record { name = name; «type_name» = typeName; «type_alias» = typeAlias; description = description })
 
 -- a field's content, where the header has n fields
 unfoldable pub field : ℕ → Rule FieldRow

@@ -220,7 +220,7 @@ each-snoc P [] x e p = (p, tt)
 each-snoc P (y ∷ ys) x e p = (e .0, each-snoc P ys x (e .1) p)
 
 module _ {A : Type 0} (P : A → Type 0) (head : ℕ) (r : List A → Rule A) (s : List ℕ) (rule : (done : List A) (at : ℕ) (x : A) (p : ℕ) → r done s at ≡ found x p → P x) where
-  items-each : (n : ℕ) (done : List A) (at : ℕ) {rows : List A} {p : ℕ} → Each P done → items head r n done s at ≡ found rows p → Each P rows
+  pub items-each : (n : ℕ) (done : List A) (at : ℕ) {rows : List A} {p : ℕ} → Each P done → items head r n done s at ≡ found rows p → Each P rows
   unfolding items
   items-each zero done at {rows} each e = let same : done ≡ rows = cc in rw same at each
   items-each (suc n) done at {rows} {p} each e = by (λ d a. items-each n d a) (r done s at) refl e
