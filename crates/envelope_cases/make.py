@@ -1,0 +1,502 @@
+#!/usr/bin/env python3
+"""Writes the cases in data/, the list of them in args and what is to be printed for them in stdout.
+Each case has its bytes and the answer that document 01 gives for them, both written by hand: nothing here reads an envelope or a page."""
+
+import os
+import shutil
+import struct
+import zlib
+
+HERE = os.path.dirname(os.path.abspath(__file__))
+CASES = []  # (name, bytes, what is printed)
+
+
+# The parts of an envelope.
+
+
+def u16(n):
+    return struct.pack("<H", n)
+
+
+def u32(n):
+    return struct.pack("<I", n)
+
+
+def u64(n):
+    return struct.pack("<Q", n)
+
+
+def envelope(payload, version=1, minimum=1):
+    content = u16(version) + u16(minimum) + payload
+    return content + u32(zlib.crc32(content))
+
+
+def string(text=b""):
+    return u32(len(text)) + text
+
+
+def record(content):
+    return struct.pack("<i", 4 + len(content)) + content
+
+
+def items(members, more=0, count=None, spare=b""):
+    """A list frame; `more` is how much its size says beside what it has, and `count` is given where it is not the number of members."""
+    content = b"".join(members) + spare
+    return struct.pack("<i", -(8 + len(content) + more)) + u32(len(members) if count is None else count) + content
+
+
+EMPTY = items([])
+
+
+def field(parent, flags=0, repetition=b"", name=b""):
+    return record(u32(1) + u32(2) + u32(parent) + u16(0) + u16(flags) + repetition + string(name) + string() * 3)
+
+
+def column(column_type, bits, on_field):
+    return record(u16(column_type) + u16(bits) + u32(on_field) + u32(0))
+
+
+def header(fields=(), columns=(), aliases=(), name=b"", description=b""):
+    return envelope(u64(0) + string(name) + string(description) + items(fields) + items(columns) + items(aliases))
+
+
+def flipped(content, place):
+    return content[:place] + bytes([content[place] ^ 0x01]) + content[place + 1 :]
+
+
+# The cases. Each word of a lent table is 9 before the call, and each byte of a lent page EE; a refusal leaves them so.
+
+
+def case(called, name, line, number_1=0, number_2=0, words=(), page_room=0, first=b"", second=b"", zeros_for=0, zeros=0):
+    lent = list(words) + [0] * (3 - len(words))
+    numbers = [called, number_1, number_2, *lent, page_room, len(first), zeros_for, zeros]
+    CASES.append((name, b"".join(u64(n) for n in numbers) + first + second, line))
+
+
+def table(words, rows=()):
+    """How a lent table of so many words is printed, with these words in front."""
+    return " |" + "".join(f" {w}" for w in list(rows) + [9] * (words - len(rows)))
+
+
+def kept(words):
+    return "".join(table(n) for n in words)
+
+
+SMALLEST = header()
+assert len(SMALLEST) == 48
+LONGEST = 1048576
+# So many zeros are an envelope whose checksum differs, and no more than that.
+assert zlib.crc32(bytes(LONGEST - 4)) != 0
+
+# Headers: too long, and lent rooms that fit and do not. A row has 15 words for a field, 4 for a column, 2 for an alias.
+
+
+def header_accepted(name, content, words, counts, rows=((), (), ())):
+    """`counts` are those of fields, columns and aliases, and then the places and lengths of name and description."""
+    line = " accepted" + "".join(f" {n}" for n in counts) + "".join(table(n, r) for n, r in zip(words, rows))
+    case(1, name, line, words=words, first=content)
+
+
+def header_refused(number, name, content=b"", words=(15, 4, 2), **more):
+    case(1, name, f" refused 1 {number}" + kept(words), words=words, first=content, **more)
+
+
+# The name n stands at 16, the description text at 21. Field 0 has a column of unknown type, so it is dark; its strings are empty and
+# stand at 57, 61, 65 and 69. Field 1 is an alias with a repetition, the name xy at 101, and empty strings at 107, 111 and 115.
+TWO_FIELDS = header([field(0), field(1, 3, u64(7), b"xy")], [column(0x1D, 5, 0)], [record(u32(0) + u32(1))], b"n", b"text")
+TWO_COUNTS = (2, 1, 1, 16, 1, 21, 4)
+FIELD_ROWS = [1, 2, 0, 0, 0, 0, 57, 0, 61, 0, 65, 0, 69, 0, 1] + [1, 2, 1, 0, 3, 7, 101, 2, 107, 0, 111, 0, 115, 0, 0]
+HEADER_ROWS = (FIELD_ROWS, [0x1D, 5, 0, 0], [0, 1])
+
+header_accepted("header_smallest", SMALLEST, (0, 0, 0), (0, 0, 0, 16, 0, 20, 0))
+header_refused(1, "header_of_1048577_bytes", zeros_for=1, zeros=LONGEST + 1)
+header_refused(3, "header_of_1048576_bytes", zeros_for=1, zeros=LONGEST)
+header_accepted("header_room_exact", TWO_FIELDS, (30, 4, 2), TWO_COUNTS, HEADER_ROWS)
+header_accepted("header_room_left", TWO_FIELDS, (34, 9, 5), TWO_COUNTS, HEADER_ROWS)
+header_refused(20, "header_room_for_one_field", TWO_FIELDS, (29, 4, 2))
+header_refused(20, "header_room_for_no_column", TWO_FIELDS, (30, 3, 2))
+header_refused(20, "header_room_for_no_alias", TWO_FIELDS, (30, 4, 1))
+header_refused(15, "header_chains_before_room", header([field(1), field(0)]), (0, 0, 0))
+
+# Footers.
+
+
+def link(size, offset, stored=None):
+    return u32(size) + u32(size if stored is None else stored) + u64(offset)
+
+
+def cluster(first_entry, entries, page_list=link(0, 0), spare=b""):
+    return record(u64(first_entry) + u64(entries) + page_list + spare)
+
+
+def checksum_of(content):
+    return content[-4:]
+
+
+FEATURES = u64(0)
+NAMED = checksum_of(SMALLEST)
+
+
+def footer(clusters=EMPTY, metadata=EMPTY, extension=EMPTY, groups=EMPTY, named=NAMED, features=FEATURES, spare=b"", version=1, minimum=1):
+    return envelope(features + named + extension + groups + clusters + metadata + spare, version, minimum)
+
+
+def footer_accepted(name, content, words, counts, rows=((), ()), file_length=1000, beside=SMALLEST):
+    line = f" accepted {counts[0]} {counts[1]}" + "".join(table(n, r) for n, r in zip(words, rows))
+    case(2, name, line, file_length, words=words, first=beside, second=content)
+
+
+def footer_refused(number, name, content=b"", words=(8, 4), file_length=1000, beside=SMALLEST, place=2, **more):
+    case(2, name, f" refused {place} {number}" + kept(words), file_length, words=words, first=beside, second=content, **more)
+
+
+SMALLEST_FOOTER = footer()
+assert len(SMALLEST_FOOTER) == 52
+footer_accepted("footer_smallest", SMALLEST_FOOTER, (0, 0), (0, 0))
+footer_refused(1, "footer_of_1048577_bytes", zeros_for=2, zeros=LONGEST + 1)
+footer_refused(3, "footer_of_1048576_bytes", zeros_for=2, zeros=LONGEST)
+footer_refused(2, "footer_of_7_bytes", SMALLEST_FOOTER[:7])
+footer_refused(2, "footer_empty", b"")
+footer_refused(3, "footer_checksum_bit", flipped(SMALLEST_FOOTER, 51))
+footer_refused(3, "footer_content_bit", flipped(SMALLEST_FOOTER, 12))
+footer_refused(4, "footer_minimum_0", footer(minimum=0))
+footer_refused(4, "footer_minimum_above_version", footer(minimum=2))
+footer_refused(5, "footer_minimum_2", footer(version=2, minimum=2))
+footer_refused(6, "footer_feature_bit_0", footer(features=u64(1)))
+footer_refused(6, "footer_feature_word_2_bit_62", footer(features=u64(1 << 63) + u64(1 << 62)))
+footer_accepted("footer_feature_words_2", footer(features=u64(1 << 63) + u64(0)), (0, 0), (0, 0))
+footer_refused(7, "footer_of_8_bytes", envelope(b""))
+footer_refused(7, "footer_header_checksum_of_3_bytes", envelope(FEATURES + NAMED[:3]))
+footer_refused(7, "footer_metadata_missing", envelope(FEATURES + NAMED + EMPTY * 3))
+footer_refused(7, "footer_metadata_past_its_envelope", footer(metadata=items([], more=1)))
+footer_refused(7, "footer_cluster_missing", footer(items([], count=1)))
+footer_refused(7, "footer_cluster_cut", footer(items([record(u64(0) + u64(1) + link(0, 0)[:-1])])))
+footer_refused(7, "footer_link_cut", footer(metadata=items([link(0, 0)[:-1]])))
+footer_refused(8, "footer_extension_is_a_record", footer(extension=u32(8) + u32(0)))
+footer_refused(8, "footer_groups_size_fffffffc", footer(groups=u32(0xFFFFFFFC) + u32(0)))
+footer_refused(8, "footer_clusters_reserved_bit_28", footer(items([], count=1 << 28)))
+footer_refused(8, "footer_cluster_is_a_list", footer(items([items([u64(0) + u64(0) + link(0, 0)])])))
+footer_refused(10, "footer_clusters_1025", footer(items([], count=1025)))
+footer_refused(7, "footer_clusters_1024_missing", footer(items([], count=1024)))
+footer_refused(10, "footer_links_65", footer(metadata=items([], count=65)))
+footer_refused(10, "footer_links_65_there", footer(metadata=items([link(0, 0)] * 65)))
+footer_refused(20, "footer_links_64", footer(metadata=items([link(0, 0)] * 64)))
+footer_refused(12, "footer_flag_61", footer(items([cluster(0, 1 << 61)])))
+footer_refused(12, "footer_flag_63", footer(items([cluster(0, 1 << 63)])))
+footer_refused(16, "footer_names_another_header", footer(named=flipped(NAMED, 0)))
+footer_refused(16, "footer_header_checksum_before_lists", footer(named=flipped(NAMED, 3), extension=items([link(0, 0)])))
+footer_refused(16, "footer_of_the_smallest_beside_another", SMALLEST_FOOTER, beside=TWO_FIELDS)
+footer_refused(17, "footer_extension_header", footer(extension=items([link(0, 0)])))
+footer_refused(17, "footer_extension_at_the_count", footer(extension=items([], count=1025)))
+footer_refused(17, "footer_column_group", footer(groups=items([link(0, 0)])))
+footer_refused(17, "footer_flag_60", footer(items([cluster(0, 1 << 60)])))
+footer_refused(17, "footer_flag_60_before_61", footer(items([cluster(0, 3 << 60)])))
+footer_refused(17, "footer_locator_bit_31", footer(metadata=items([link(5, 0, 1 << 31 | 5)])))
+footer_refused(17, "footer_stored_size_4_of_5", footer(metadata=items([link(5, 0, 4)])))
+footer_refused(17, "footer_cluster_stored_size_4_of_5", footer(items([cluster(0, 1, link(5, 0, 4))])))
+footer_refused(17, "footer_size_80000000", footer(metadata=items([link(1 << 31, 0, 1 << 31)])))
+LAST_BYTE = footer(items([cluster(0, 3, link(10, 90))]), items([link(5, 95)]))
+LAST_ROWS = ((0, 3, 10, 90), (5, 95))
+footer_accepted("footer_ranges_to_the_last_byte", LAST_BYTE, (4, 2), (1, 1), LAST_ROWS, file_length=100)
+footer_refused(18, "footer_cluster_range_one_further", footer(items([cluster(0, 3, link(10, 91))]), items([link(5, 95)])), file_length=100)
+footer_refused(18, "footer_link_range_one_further", footer(items([cluster(0, 3, link(10, 90))]), items([link(5, 96)])), file_length=100)
+footer_refused(18, "footer_file_one_byte_shorter", LAST_BYTE, file_length=99)
+footer_refused(18, "footer_range_past_64_bits", footer(metadata=items([link(2, 2**64 - 1)])))
+HIGHEST = 2**64 - 1
+footer_accepted("footer_range_to_the_highest_byte", footer(metadata=items([link(2, HIGHEST - 2)])), (0, 2), (0, 1), ((), (2, HIGHEST - 2)), file_length=HIGHEST)
+footer_accepted("footer_range_of_no_bytes_at_the_end", footer(metadata=items([link(0, 1000)])), (0, 2), (0, 1), ((), (0, 1000)))
+footer_refused(18, "footer_range_of_no_bytes_past_the_end", footer(metadata=items([link(0, 1001)])))
+footer_refused(19, "footer_first_entry_1", footer(items([cluster(1, 5)])))
+footer_refused(19, "footer_second_first_entry_4_of_5", footer(items([cluster(0, 5), cluster(4, 1)])))
+footer_refused(19, "footer_first_entry_before_flag_60", footer(items([cluster(1, 1 << 60)])))
+MOST = 2**60 - 1
+footer_accepted("footer_sum_at_its_most", footer(items([cluster(0, MOST - 1), cluster(MOST - 1, 1)])), (8, 0), (2, 0), ((0, MOST - 1, 0, 0, MOST - 1, 1, 0, 0), ()))
+footer_refused(19, "footer_sum_one_further", footer(items([cluster(0, MOST - 1), cluster(MOST - 1, 2)])))
+THREE = items([cluster(0, 5, link(10, 20)), cluster(5, 0, link(0, 1000)), cluster(5, 7, link(100, 900))])
+THREE_ROWS = (0, 5, 10, 20, 5, 0, 0, 1000, 5, 7, 100, 900)
+LINKS = items([link(1, 2), link(3, 4)])
+TWO_NAMED = checksum_of(TWO_FIELDS)
+FULL = footer(THREE, LINKS, named=TWO_NAMED)
+footer_accepted("footer_room_exact", FULL, (12, 4), (3, 2), (THREE_ROWS, (1, 2, 3, 4)), beside=TWO_FIELDS)
+footer_accepted("footer_room_left", FULL, (17, 7), (3, 2), (THREE_ROWS, (1, 2, 3, 4)), beside=TWO_FIELDS)
+footer_refused(20, "footer_room_for_two_clusters", FULL, (11, 4), beside=TWO_FIELDS)
+footer_refused(20, "footer_room_for_one_link", FULL, (12, 3), beside=TWO_FIELDS)
+
+
+def footer_spare(where, words, counts, rows=((), ()), **parts):
+    """Refused at version 1, which is the minimum, and accepted at version 2."""
+    footer_refused(11, f"footer_spare_in_{where}", footer(**parts), words)
+    footer_accepted(f"footer_spare_in_{where}_version_2", footer(version=2, **parts), words, counts, rows)
+
+
+SPARE = b"\xff"
+footer_spare("payload", (0, 0), (0, 0), spare=SPARE)
+footer_spare("extension", (0, 0), (0, 0), extension=items([], spare=SPARE))
+footer_spare("groups", (0, 0), (0, 0), groups=items([], spare=SPARE))
+footer_spare("clusters", (4, 0), (1, 0), ((0, 5, 0, 0), ()), clusters=items([cluster(0, 5)], spare=SPARE))
+footer_spare("cluster", (4, 0), (1, 0), ((0, 5, 0, 0), ()), clusters=items([cluster(0, 5, spare=SPARE)]))
+footer_spare("metadata", (0, 2), (0, 1), ((), (7, 8)), metadata=items([link(7, 8)], spare=SPARE))
+
+# The header's refusal comes before all of the footer's.
+footer_refused(3, "footer_beside_a_header_checksum_bit", SMALLEST_FOOTER, beside=flipped(SMALLEST, 47), place=1)
+footer_refused(15, "footer_beside_a_circle", b"", beside=header([field(1), field(0)]), place=1)
+footer_refused(1, "footer_beside_1048577_bytes", SMALLEST_FOOTER, beside=b"", place=1, zeros_for=1, zeros=LONGEST + 1)
+
+# Page lists.
+
+
+def page(elements, size, offset, flags=0):
+    return u32(flags << 30 | elements) + u32(size) + u64(offset)
+
+
+def page_list(columns=EMPTY, spare=b"", version=1, minimum=1):
+    return envelope(columns + spare, version, minimum)
+
+
+def pages_accepted(name, content, beside, words, count, rows=(), entries=5, file_length=1000):
+    case(3, name, f" accepted {count}" + table(words, rows), file_length, entries, (words,), first=beside, second=content)
+
+
+def pages_refused(number, name, content=b"", beside=SMALLEST, words=15, entries=5, file_length=1000, place=3, **more):
+    case(3, name, f" refused {place} {number}" + kept((words,)), file_length, entries, (words,), first=beside, second=content, **more)
+
+
+SMALLEST_PAGE_LIST = page_list()
+assert len(SMALLEST_PAGE_LIST) == 16
+# One field with a 32-bit column; one with a Bit column; one with a column of unknown type that has 5 bits.
+ONE = header([field(0)], [column(0x11, 32, 0)])
+BIT = header([field(0)], [column(0x06, 1, 0)])
+UNKNOWN = header([field(0)], [column(0x1D, 5, 0)])
+
+
+def one(*pages, **parts):
+    """The page list of one column."""
+    return page_list(items([items(pages, **parts)]))
+
+
+pages_accepted("pages_smallest", SMALLEST_PAGE_LIST, SMALLEST, 0, 0)
+pages_refused(1, "pages_of_1048577_bytes", zeros_for=2, zeros=LONGEST + 1)
+pages_refused(3, "pages_of_1048576_bytes", zeros_for=2, zeros=LONGEST)
+pages_refused(2, "pages_of_7_bytes", SMALLEST_PAGE_LIST[:7])
+pages_refused(2, "pages_empty", b"")
+pages_refused(3, "pages_checksum_bit", flipped(SMALLEST_PAGE_LIST, 15))
+pages_refused(3, "pages_content_bit", flipped(SMALLEST_PAGE_LIST, 8))
+pages_refused(4, "pages_minimum_0", page_list(minimum=0))
+pages_refused(4, "pages_minimum_above_version", page_list(minimum=2))
+pages_refused(5, "pages_minimum_2", page_list(version=2, minimum=2))
+pages_refused(7, "pages_of_8_bytes", envelope(b""))
+pages_refused(7, "pages_outer_past_its_envelope", page_list(items([], more=1)))
+pages_refused(7, "pages_inner_missing", page_list(items([], count=1)), ONE)
+pages_refused(7, "pages_inner_past_its_list", page_list(items([items([page(5, 20, 0)], more=1)])), ONE)
+pages_refused(7, "pages_page_missing", one(count=1), ONE)
+pages_refused(7, "pages_page_cut", one(page(5, 20, 0)[:-1]), ONE)
+pages_refused(8, "pages_outer_is_a_record", page_list(u32(8) + u32(0)))
+pages_refused(8, "pages_inner_is_a_record", page_list(items([record(page(5, 20, 0))])), ONE)
+pages_refused(8, "pages_outer_reserved_bit_31", page_list(items([], count=1 << 31)))
+pages_refused(8, "pages_inner_reserved_bit_28", one(count=1 << 28), ONE)
+pages_refused(10, "pages_outer_1025", page_list(items([], count=1025)))
+pages_refused(19, "pages_outer_1024", page_list(items([], count=1024)))
+pages_refused(10, "pages_inner_16385", one(count=16385), ONE)
+pages_refused(7, "pages_inner_16384_missing", one(count=16384), ONE)
+# Two columns on the field: a page of the first, and then the count of the second's.
+TWO = header([field(0)], [column(0x11, 32, 0), column(0x0D, 8, 0)])
+
+
+def two(first, second):
+    return page_list(items([first, second]))
+
+
+FIVE = items([page(5, 20, 0)])
+pages_refused(10, "pages_running_total_16385", two(FIVE, items([], count=16384)), TWO)
+pages_refused(7, "pages_running_total_16384_missing", two(FIVE, items([], count=16383)), TWO)
+pages_refused(12, "pages_bit_31", one(page(5, 20, 0, 2)), ONE)
+pages_refused(12, "pages_bit_31_before_size", one(page(5, 19, 0, 2)), ONE)
+pages_refused(17, "pages_size_19_of_20", one(page(5, 19, 0)), ONE)
+pages_refused(17, "pages_size_21_of_20", one(page(5, 21, 0)), ONE)
+pages_refused(17, "pages_locator_bit_31", one(page(5, 1 << 31 | 20, 0)), ONE)
+pages_refused(17, "pages_checksum_not_in_the_size", one(page(5, 24, 0, 1)), ONE)
+pages_refused(17, "pages_size_before_range", one(page(5, 19, 1001)), ONE)
+pages_refused(18, "pages_range_one_further", one(page(5, 20, 981)), ONE)
+pages_refused(18, "pages_file_one_byte_shorter", one(page(5, 20, 980)), ONE, file_length=999)
+pages_refused(18, "pages_range_past_64_bits", one(page(5, 20, HIGHEST)), ONE, file_length=HIGHEST)
+pages_refused(18, "pages_range_before_totals", one(page(4, 16, 985)), ONE)
+pages_accepted("pages_range_to_the_last_byte", one(page(5, 20, 980)), ONE, 5, 1, (0, 5, 0, 20, 980))
+pages_refused(19, "pages_columns_1_of_0", page_list(items([EMPTY])))
+pages_refused(19, "pages_columns_0_of_1", page_list(), ONE)
+pages_refused(19, "pages_columns_2_of_1", two(FIVE, EMPTY), ONE)
+pages_refused(19, "pages_columns_before_items", page_list(items([], count=2)), ONE)
+pages_refused(7, "pages_frame_before_columns", page_list(items([], more=1, count=2)), ONE)
+pages_refused(19, "pages_total_4_of_5", one(page(4, 16, 0)), ONE)
+pages_refused(19, "pages_total_6_of_5", one(page(3, 12, 0), page(3, 12, 12)), ONE)
+pages_refused(19, "pages_total_of_no_pages", one(), ONE)
+pages_accepted("pages_no_pages_no_entries", one(), ONE, 0, 0, entries=0)
+pages_refused(19, "pages_totals_before_room", one(page(4, 16, 0)), ONE, words=0)
+pages_accepted("pages_second_column_is_not_totalled", two(FIVE, items([page(3, 3, 40)])), TWO, 10, 2, (0, 5, 0, 20, 0, 1, 3, 0, 3, 40))
+pages_refused(19, "pages_first_column_is_totalled", two(items([page(3, 12, 0)]), items([page(5, 5, 40)])), TWO)
+REPETITIVE = header([field(0, 1, u64(2))], [column(0x11, 32, 0)])
+pages_accepted("pages_repetitive_field_is_not_totalled", one(page(3, 12, 0)), REPETITIVE, 5, 1, (0, 3, 0, 12, 0))
+ALIASED = header([field(0, 2)], [column(0x11, 32, 0)])
+pages_accepted("pages_alias_field_is_not_totalled", one(page(3, 12, 0)), ALIASED, 5, 1, (0, 3, 0, 12, 0))
+CHILD = header([field(0), field(0)], [column(0x11, 32, 1)])
+pages_accepted("pages_child_is_not_totalled", one(page(3, 12, 0)), CHILD, 5, 1, (0, 3, 0, 12, 0))
+LATER = header([field(1), field(1)], [column(0x11, 32, 1)])
+pages_refused(19, "pages_later_top_field_is_totalled", one(page(3, 12, 0)), LATER)
+# Bits: nine elements of one bit take two bytes; three elements of the unknown type's five bits take two, and are not totalled.
+pages_accepted("pages_nine_bits", one(page(9, 2, 7)), BIT, 5, 1, (0, 9, 0, 2, 7), entries=9)
+pages_refused(17, "pages_nine_bits_in_one_byte", one(page(9, 1, 7)), BIT, entries=9)
+pages_accepted("pages_unknown_type", one(page(3, 2, 7)), UNKNOWN, 5, 1, (0, 3, 0, 2, 7))
+pages_refused(17, "pages_unknown_type_in_one_byte", one(page(3, 1, 7)), UNKNOWN)
+# Three pages of two columns, one with a checksum behind it.
+THREE_PAGES = two(items([page(2, 8, 100, 1), page(3, 12, 200)]), items([page(1073741823, 1073741823, 0)]))
+THREE_PAGE_ROWS = (0, 2, 1, 8, 100, 0, 3, 0, 12, 200, 1, 1073741823, 0, 1073741823, 0)
+pages_accepted("pages_room_exact", THREE_PAGES, TWO, 15, 3, THREE_PAGE_ROWS, file_length=2**31)
+pages_accepted("pages_room_left", THREE_PAGES, TWO, 21, 3, THREE_PAGE_ROWS, file_length=2**31)
+pages_refused(20, "pages_room_for_two", THREE_PAGES, TWO, 14, file_length=2**31)
+
+
+def pages_spare(where, columns=EMPTY, spare=b"", beside=SMALLEST, words=0, count=0, rows=()):
+    """Refused at version 1, which is the minimum, and accepted at version 2."""
+    pages_refused(11, f"pages_spare_in_{where}", page_list(columns, spare), beside, words)
+    pages_accepted(f"pages_spare_in_{where}_version_2", page_list(columns, spare, version=2), beside, words, count, rows)
+
+
+pages_spare("payload", spare=SPARE)
+pages_spare("outer", items([], spare=SPARE))
+pages_spare("inner", items([items([page(5, 20, 3)], spare=SPARE)]), beside=ONE, words=5, count=1, rows=(0, 5, 0, 20, 3))
+
+# The header's refusal comes before all of the page list's.
+pages_refused(3, "pages_beside_a_header_checksum_bit", SMALLEST_PAGE_LIST, flipped(SMALLEST, 47), place=1)
+pages_refused(14, "pages_beside_parent_1_of_one", b"", header([field(1)]), place=1)
+pages_refused(1, "pages_beside_1048577_bytes", SMALLEST_PAGE_LIST, b"", place=1, zeros_for=1, zeros=LONGEST + 1)
+
+# Pages to decode: `words` are lent, and the elements are put from `start` on.
+
+
+def decode(name, column_type, elements, content, words, start, checksum, line):
+    case(4, name, line, column_type, elements, (words, start, checksum), first=content)
+
+
+def decoded(name, column_type, content, values, words=None, start=0, checksum=0):
+    lent = start + len(values) if words is None else words
+    line = f" accepted {len(values)}" + table(lent, [9] * start + list(values))
+    decode(name, column_type, len(values), content, lent, start, checksum, line)
+
+
+def not_decoded(number, name, column_type, elements, content, words=4, start=0, checksum=0):
+    decode(name, column_type, elements, content, words, start, checksum, f" refused 4 {number}" + kept((words,)))
+
+
+def summed(content):
+    return content + u32(zlib.crc32(content))
+
+
+BITS = (1, 0, 0, 0, 0, 0, 0, 0, 1)
+decoded("decode_bit", 0x06, b"\x01\x01", BITS)
+decoded("decode_bit_within", 0x06, b"\x01\x01", BITS, words=14, start=3)
+decoded("decode_bit_with_checksum", 0x06, summed(b"\x01\x01"), BITS, checksum=1)
+not_decoded(24, "decode_bit_01_03", 0x06, 9, b"\x01\x03", words=9)
+not_decoded(24, "decode_bit_highest_unused", 0x06, 1, b"\x81")
+decoded("decode_bit_eight", 0x06, b"\x81", (1, 0, 0, 0, 0, 0, 0, 1))
+not_decoded(24, "decode_bit_before_room", 0x06, 9, b"\x01\x03", words=8)
+not_decoded(22, "decode_checksum_before_bits", 0x06, 9, flipped(summed(b"\x01\x03"), 5), words=9, checksum=1)
+not_decoded(23, "decode_type_00", 0x00, 1, bytes(4))
+not_decoded(23, "decode_type_1d", 0x1D, 1, bytes(4))
+not_decoded(23, "decode_type_ffff", 0xFFFF, 1, bytes(4))
+not_decoded(23, "decode_switch", 0x03, 1, bytes(12))
+not_decoded(23, "decode_switch_before_count", 0x03, 131073, b"")
+not_decoded(10, "decode_elements_131073", 0x0D, 131073, b"")
+not_decoded(21, "decode_elements_131072", 0x0D, 131072, b"")
+not_decoded(10, "decode_elements_most", 0x01, 2**64 - 1, b"")
+not_decoded(21, "decode_7_bytes_of_8", 0x0B, 2, bytes(7))
+not_decoded(21, "decode_9_bytes_of_8", 0x0B, 2, bytes(9))
+not_decoded(21, "decode_checksum_missing", 0x0B, 2, bytes(8), checksum=1)
+not_decoded(21, "decode_checksum_not_asked_for", 0x0B, 2, summed(bytes(8)))
+not_decoded(22, "decode_checksum_bit", 0x0B, 2, flipped(summed(bytes(8)), 11), checksum=1)
+not_decoded(22, "decode_content_bit", 0x0B, 2, flipped(summed(bytes(8)), 0), checksum=1)
+not_decoded(22, "decode_checksum_before_room", 0x0B, 2, flipped(summed(bytes(8)), 0), words=1, checksum=1)
+not_decoded(20, "decode_room_for_one", 0x0B, 2, bytes(8), words=1)
+not_decoded(20, "decode_start_1_of_2", 0x0B, 2, bytes(8), words=2, start=1)
+not_decoded(20, "decode_start_past_the_words", 0x0B, 0, b"", words=2, start=3)
+not_decoded(20, "decode_start_past_64_bits", 0x0B, 2, bytes(8), words=2, start=2**64 - 1)
+decoded("decode_nothing_at_the_end", 0x0B, b"", (), words=2, start=2)
+decoded("decode_nothing_with_checksum", 0x0B, summed(b""), (), words=2, checksum=1)
+decoded("decode_32_bits_within", 0x0B, u32(1) + u32(0xFFFFFFFF), (1, 0xFFFFFFFF), words=5, start=1)
+decoded("decode_16_bits_split", 0x15, b"\x34\xcd\x12\xab", (0x1234, 0xABCD))
+decoded("decode_index32_1_1_3", 0x0F, b"\x01\x00\x02" + bytes(9), (1, 1, 3))
+# 5 and the difference 4294967294: planes of five, FE; then 0, FF three times.
+decoded("decode_deltas_5_3", 0x0F, b"\x05\xfe\x00\xff\x00\xff\x00\xff", (5, 3))
+# 0, 65535, 65534 and 1 of zigzag at 16 bits: 0, -32768, 32767 and -1 in two's complement.
+decoded("decode_zigzag", 0x1C, b"\x00\xff\xfe\x01\x00\xff\xff\x00", (0, 0x8000, 0x7FFF, 0xFFFF))
+
+# Pages to encode: `values` are the lent words.
+
+
+def encode(name, column_type, values, elements, start, room, checksum, line):
+    content = b"".join(u64(v) for v in values)
+    case(5, name, line, column_type, elements, (len(values), start, checksum), room, first=content)
+
+
+def page_bytes(room, content=b""):
+    return " |" + "".join(f" {b:02x}" for b in content + b"\xee" * (room - len(content)))
+
+
+def encoded(name, column_type, values, content, elements=None, start=0, room=None, checksum=0):
+    lent = len(content) if room is None else room
+    count = len(values) if elements is None else elements
+    encode(name, column_type, values, count, start, lent, checksum, f" accepted {len(content)}" + page_bytes(lent, content))
+
+
+def not_encoded(number, name, column_type, values, elements=None, start=0, room=8, checksum=0):
+    count = len(values) if elements is None else elements
+    encode(name, column_type, values, count, start, room, checksum, f" refused 4 {number}" + page_bytes(room))
+
+
+encoded("encode_bit", 0x06, BITS, b"\x01\x01")
+encoded("encode_bit_room_left", 0x06, BITS, b"\x01\x01", room=5)
+encoded("encode_bit_with_checksum", 0x06, BITS, summed(b"\x01\x01"), checksum=1)
+encoded("encode_bit_of_a_part", 0x06, (7, 7) + BITS + (7,), b"\x01\x01", elements=9, start=2)
+encoded("encode_nothing", 0x06, (), b"", room=2)
+encoded("encode_nothing_with_checksum", 0x06, (7, 7), bytes(4), elements=0, start=2, room=6, checksum=1)
+encoded("encode_16_bits_split", 0x15, (0x1234, 0xABCD), b"\x34\xcd\x12\xab")
+encoded("encode_index32_1_1_3", 0x0F, (1, 1, 3), b"\x01\x00\x02" + bytes(9))
+encoded("encode_deltas_5_3", 0x0F, (5, 3), b"\x05\xfe\x00\xff\x00\xff\x00\xff")
+encoded("encode_zigzag", 0x1C, (0, 0x8000, 0x7FFF, 0xFFFF), b"\x00\xff\xfe\x01\x00\xff\xff\x00")
+encoded("encode_64_bits_highest", 0x0A, (2**64 - 1,), b"\xff" * 8)
+not_encoded(23, "encode_type_00", 0x00, (1,))
+not_encoded(23, "encode_type_1d", 0x1D, (1,))
+not_encoded(23, "encode_switch", 0x03, (1,), room=12)
+not_encoded(23, "encode_switch_before_count", 0x03, (), 131073)
+not_encoded(10, "encode_elements_131073", 0x0D, (), 131073)
+not_encoded(20, "encode_elements_131072", 0x0D, (), 131072)
+not_encoded(20, "encode_words_1_of_2", 0x0B, (1,), 2)
+not_encoded(20, "encode_start_1_of_2", 0x0B, (1, 2), 2, start=1)
+not_encoded(20, "encode_start_past_the_words", 0x0B, (1, 2), 0, start=3)
+not_encoded(20, "encode_start_past_64_bits", 0x0B, (1, 2), 2, start=2**64 - 1)
+not_encoded(20, "encode_page_room_7_of_8", 0x0B, (1, 2), room=7)
+not_encoded(20, "encode_page_room_without_checksum", 0x0B, (1, 2), room=11, checksum=1)
+not_encoded(20, "encode_room_before_values", 0x06, (2,), room=0)
+not_encoded(25, "encode_bit_2", 0x06, (1, 2))
+not_encoded(25, "encode_8_bits_256", 0x0D, (255, 256))
+not_encoded(25, "encode_16_bits_sign_above", 0x1C, (2**64 - 1,))
+not_encoded(25, "encode_32_bits_33", 0x0F, (1, 2**32), room=16)
+encoded("encode_8_bits_255", 0x0D, (255, 0), b"\xff\x00")
+
+# The checksum of the digits.
+case(6, "crc32_of_the_digits", " cbf43926", first=b"123456789")
+
+
+def write(path, content):
+    with open(os.path.join(HERE, path), "wb") as file:
+        file.write(content)
+
+
+if __name__ == "__main__":
+    names = [name for name, _, _ in CASES]
+    assert len(set(names)) == len(names)
+    shutil.rmtree(os.path.join(HERE, "data"), ignore_errors=True)
+    os.mkdir(os.path.join(HERE, "data"))
+    for name, content, _ in CASES:
+        write(os.path.join("data", name), content)
+    write("args", "".join(f"{name}\n" for name in names).encode())
+    write("stdout", "".join(f"{name}:{line}\n" for name, _, line in CASES).encode())
+    print(f"{len(CASES)} cases")
