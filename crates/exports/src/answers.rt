@@ -42,7 +42,10 @@ pub fn footer_code(answer: FooterAnswer) -> u32
     ensures { λ r. ⌜ r ≡ footerCode answer ⌝ }
 {
     match answer {
-        FooterAnswer::Accepted { clusters: _, metadata: _ } => 0,
+        FooterAnswer::Accepted {
+            clusters: _,
+            metadata: _,
+        } => 0,
         FooterAnswer::Refused(envelope, number) => 256 * (envelope as u32) + number as u32,
     }
 }

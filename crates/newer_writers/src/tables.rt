@@ -82,8 +82,14 @@ fn same_fields(old: &[u8], new: &[u8], a: &[u64; 120], b: &[u64; 120]) -> bool {
             }
         } else if word % 2 == 0 {
             if i < 119 {
-                let s = Text { place: a[i] as usize, len: a[i + 1] as usize };
-                let t = Text { place: b[i] as usize, len: b[i + 1] as usize };
+                let s = Text {
+                    place: a[i] as usize,
+                    len: a[i + 1] as usize,
+                };
+                let t = Text {
+                    place: b[i] as usize,
+                    len: b[i + 1] as usize,
+                };
                 if !same_texts(old, new, s, t) {
                     return false;
                 }
@@ -94,7 +100,13 @@ fn same_fields(old: &[u8], new: &[u8], a: &[u64; 120], b: &[u64; 120]) -> bool {
     true
 }
 
-pub fn same_footers(old_header: &[u8], new_header: &[u8], old: &[u8], new: &[u8], length: u64) -> bool {
+pub fn same_footers(
+    old_header: &[u8],
+    new_header: &[u8],
+    old: &[u8],
+    new: &[u8],
+    length: u64,
+) -> bool {
     let mut old_clusters = [9u64; 16];
     let mut old_links = [9u64; 8];
     let mut new_clusters = [9u64; 16];
@@ -105,14 +117,14 @@ pub fn same_footers(old_header: &[u8], new_header: &[u8], old: &[u8], new: &[u8]
         return false;
     }
     match first {
-        FooterAnswer::Accepted { clusters: c, metadata: m } => match second {
-            FooterAnswer::Accepted { clusters: d, metadata: n } => {
-                if c == d {
-                    m == n
-                } else {
-                    false
-                }
-            }
+        FooterAnswer::Accepted {
+            clusters: c,
+            metadata: m,
+        } => match second {
+            FooterAnswer::Accepted {
+                clusters: d,
+                metadata: n,
+            } => { if c == d { m == n } else { false } }
             FooterAnswer::Refused(_, _) => false,
         },
         FooterAnswer::Refused(_, _) => false,
@@ -120,7 +132,13 @@ pub fn same_footers(old_header: &[u8], new_header: &[u8], old: &[u8], new: &[u8]
 }
 
 // The cluster of every page list has three entries.
-pub fn same_page_lists(old_header: &[u8], new_header: &[u8], old: &[u8], new: &[u8], length: u64) -> bool {
+pub fn same_page_lists(
+    old_header: &[u8],
+    new_header: &[u8],
+    old: &[u8],
+    new: &[u8],
+    length: u64,
+) -> bool {
     let mut old_pages = [9u64; 80];
     let mut new_pages = [9u64; 80];
     let first = page_list::read_page_list(old_header, old, 3, length, &mut old_pages);
