@@ -9,11 +9,11 @@ import zlib
 
 ROOM = 512
 FILE_LENGTH = 1 << 20
-ENTRIES = 3
+ADDED = b"\xEE"
 
 
 class Writer:
-    """Writes frames; adds one byte at the end of the frame with this number, and notes where it stands."""
+    """Writes frames; adds one byte at the end of the frame with this number."""
 
     def __init__(self, extended=None):
         self.extended = extended
@@ -21,7 +21,7 @@ class Writer:
 
     def spare(self):
         self.frames += 1
-        return b"\xEE" if self.frames - 1 == self.extended else b""
+        return ADDED if self.frames - 1 == self.extended else b""
 
     def record(self, content):
         body = content + self.spare()
@@ -96,12 +96,11 @@ def case(kind, which, place, plain_header, newer_header, plain=b"", newer=b""):
     return head + b"".join(e.ljust(ROOM, b"\0") for e in (plain_header, newer_header, plain, newer))
 
 
-def added(plain, newer, mark=0xEE):
-    """Where the added byte stands: the one place at which it could be taken out again."""
-    for other in (0xEE,):
-        places = [i for i in range(4, len(newer) - 4) if newer[i] == mark]
-        assert len(places) == 1, places
-        return places[0]
+def added(newer):
+    """Where the added byte stands: it is the only one of its value between the versions and the checksum."""
+    places = [i for i in range(4, len(newer) - 4) if newer[i] == ADDED[0]]
+    assert len(places) == 1, places
+    return places[0]
 
 
 def checksum_of(envelope):
@@ -114,21 +113,21 @@ def main():
         plain = header(Writer(), size)
         for k in range(frames(lambda w: header(w, size))):
             newer = header(Writer(k), size)
-            out.append(case(1, 1, added(plain, newer), plain, newer))
+            out.append(case(1, 1, added(newer), plain, newer))
             if size == 4:
                 f, g = footer(Writer(), checksum_of(plain), 2), footer(Writer(), checksum_of(newer), 2)
-                out.append(case(2, 1, added(plain, newer), plain, newer, f, g))
+                out.append(case(2, 1, added(newer), plain, newer, f, g))
                 p = page_list(Writer(), size)
-                out.append(case(3, 1, added(plain, newer), plain, newer, p, p))
+                out.append(case(3, 1, added(newer), plain, newer, p, p))
         for n in (0, 1, 3):
             f = footer(Writer(), checksum_of(plain), n)
             for k in range(frames(lambda w: footer(w, checksum_of(plain), n))):
                 newer = footer(Writer(k), checksum_of(plain), n)
-                out.append(case(2, 2, added(f, newer), plain, plain, f, newer))
+                out.append(case(2, 2, added(newer), plain, plain, f, newer))
         p = page_list(Writer(), size)
         for k in range(frames(lambda w: page_list(w, size))):
             newer = page_list(Writer(k), size)
-            out.append(case(3, 2, added(p, newer), plain, plain, p, newer))
+            out.append(case(3, 2, added(newer), plain, plain, p, newer))
     path = pathlib.Path(__file__).parent / "data" / "cases"
     path.parent.mkdir(exist_ok=True)
     path.write_bytes(b"".join(out))
