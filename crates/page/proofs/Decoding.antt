@@ -2,14 +2,12 @@
 -- Assumes nothing.
 use mathlib.Core.Path.{_≡_, refl, sym, ap, _∙_}
 use mathlib.Core.Bool.{Bool, true, false, false≢true}
-use mathlib.Core.List.{List, _++_, append-nil}
+use mathlib.Core.List.{List, _++_}
 use Prim.Native.Nat.{ℕ, _+_, _*_, _-_, _/_, _%_, _^_, _<_, _≤_}
-use native.Mathlib.Nat.{div-eq-of-lt, le-div-iff-mul-le, le-of-eq}
+use native.Mathlib.Nat.{div-eq-of-lt, le-div-iff-mul-le}
 use native.Mathlib.Omega.{arith}
 use lib.Dec.{leb, ltb, eqb}
-use lib.ListN.{length, take, drop, getD, length-drop, drop-of-length-le}
-use lib.Seq.{take-all}
-use borrow.Rule.Slice.PartMut.{putMid}
+use lib.ListN.{length, take, drop, getD}
 use Rattle.numbers.specs.Rows.{over}
 use Rattle.numbers.specs.Choice.{pick}
 use Rattle.numbers.specs.Numbers.{little}
@@ -148,12 +146,3 @@ pub decoded-refused : (t n : ℕ) (checksum : Bool) (page old : List ℕ) (start
     → old ≡ decoded t n checksum page old start
 unfolding decoded
 decoded-refused t n checksum page old start e = ap (λ (b : Bool). pick b (take start old ++ over (elements t n page) (drop start old)) old) (sym e)
-
--- a lent part from a place to the end, put back
-pub rest-of : (start : ℕ) (old : List ℕ) → take (length old - start) (drop start old) ≡ drop start old
-rest-of start old = take-all (length old - start) (drop start old) (le-of-eq (length-drop start old))
-
-pub put-rest : (start : ℕ) (old new : List ℕ) → putMid start (length old - start) old new ≡ take start old ++ new
-put-rest start old new =
-    ap (λ (l : List ℕ). take start old ++ (new ++ l)) (drop-of-length-le (drop start old) (le-of-eq (length-drop start old)))
-    ∙ ap (λ (l : List ℕ). take start old ++ l) (append-nil new)

@@ -10,6 +10,7 @@ use lib.Dec.{eqb}
 use lib.Pow.{pow-add, pow-lt}
 use lib.ListN.{length, take, drop}
 use lib.Seq.{take-at, drop-at}
+use Rattle.planes.proofs.Words.{bytes-power}
 use Rattle.column_type.specs.Types.{widthOf, split, delta, zigzag}
 use Rattle.page.specs.Layout.{unplanes, unplain, unpacked}
 use Rattle.numbers.specs.Rows.{over}
@@ -30,12 +31,6 @@ over-over k l d e =
     ap (λ (t : List ℕ). k ++ t) (ap (λ (n : ℕ). drop n (over l d)) e ∙ drop-at l (drop (length l) d) (length l) refl ∙ ap (λ (n : ℕ). drop n d) (sym e))
 
 -- powers and sizes
-
-pub bytes-power : (k : ℕ) → 256 ^ k ≡ 2 ^ (8 * k)
-bytes-power zero = refl
-bytes-power (suc k) =
-    let e : 8 * suc k ≡ 8 * k + 8 = omega arith in
-    pow-suc 256 k ∙ ap (λ (m : ℕ). m * 256) (bytes-power k) ∙ sym (pow-add 2 (8 * k) 8) ∙ ap (λ (i : ℕ). 2 ^ i) (sym e)
 
 pub one-up : (w : ℕ) → w ≤ 64 → (w ≡ 64 → ⊥) → 1 * 2 ^ w % 2 ^ 64 ≡ 2 ^ w
 one-up w h e =

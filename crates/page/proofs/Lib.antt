@@ -5,7 +5,6 @@ pub mod Planes
 pub mod Plain
 pub mod Strided
 pub mod Bits
-pub mod Filling
 pub mod Puts
 pub mod Turning
 pub mod Signs
@@ -17,3 +16,4 @@ pub mod Encoding
 pub mod Inverses
 pub mod RoundTrip
 pub mod Examples
+pub mod Passes

@@ -15,7 +15,7 @@ use Rattle.page.specs.Page.{codedBy, laidOut}
 use Rattle.page.proofs.Delta.{getD-deltas-first, getD-deltas-later, length-deltas}
 use Rattle.page.proofs.Planes.{low, high, length-planes}
 use Rattle.page.proofs.Plain.{length-bytesOf, length-plain}
-use Rattle.page.proofs.Filling.{getD-mapped}
+use Rattle.planes.proofs.Filling.{getD-mapped}
 
 -- byte m of a number without its lowest byte is byte m + 1 of it
 pub higher : (x m : ℕ) → x / 256 / 256 ^ m % 256 ≡ x / 256 ^ suc m % 256

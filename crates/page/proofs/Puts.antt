@@ -9,10 +9,11 @@ use lib.ListN.{length, set, take, drop, getD, length-set, take-append-drop}
 use lib.Seq.{getD-set-same, getD-set-other, take-suc-set, drop-set-lt, drop-drop}
 use native.Mathlib.Numerals.{add-one}
 use Rattle.numbers.specs.Rows.{over}
-use Rattle.page.specs.Strides.{byteAt, puts}
+use Rattle.page.specs.Strides.{puts}
+use Rattle.planes.specs.Plane.{byteAt}
 use Rattle.page.specs.Layout.{bytesOf, plain}
 use Rattle.page.proofs.Places.{higher, lowest, getD-plain}
-use Rattle.page.proofs.Filling.{Filled, fill-turn}
+use Rattle.planes.proofs.Filling.{Filled, fill-turn}
 
 pub puts-add : (a b x at : ℕ) (d : List ℕ) → puts (a + b) x at d ≡ puts b (x / 256 ^ a) (at + a) (puts a x at d)
 unfolding puts

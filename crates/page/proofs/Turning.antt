@@ -13,9 +13,10 @@ use Rattle.page.specs.Layout.{planes}
 use Rattle.numbers.specs.Rows.{over}
 use Rattle.page.proofs.Planes.{length-planes}
 use Rattle.page.proofs.Places.{getD-planes, plane-of}
-use Rattle.page.specs.Strides.{byteAt, puts}
+use Rattle.page.specs.Strides.{puts}
+use Rattle.planes.specs.Plane.{byteAt}
 use Rattle.page.specs.Turn.{evens, pairs, fours, row, eightOf, twoRows, fourRows, eightRows, Turned}
-use Rattle.page.proofs.Laid.{bytes-power}
+use Rattle.planes.proofs.Words.{bytes-power}
 use Rattle.page.proofs.Puts.{length-puts, puts-before, puts-behind, puts-in}
 use borrow.Author.Tests.{ltb-true, ltb-false, eqb-true, eqb-false}
 use lib.Pow.{pow-add, pow-pos}

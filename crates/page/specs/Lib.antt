@@ -5,3 +5,4 @@ pub mod Page
 pub mod RoundTrip
 pub mod Strides
 pub mod Turn
+pub mod Passes

@@ -17,10 +17,6 @@ spread k apart step (suc n) i bs = strided k step bs (i * apart) ∷ spread k ap
 abbrev pub Spreads : ℕ → ℕ → ℕ → ℕ → ℕ → Type 0
 Spreads k apart step n size = (i : ℕ) → i < n → i * apart + (k - 1) * step < size
 
--- byte p of a number, from the least significant
-abbrev pub byteAt : ℕ → ℕ → ℕ
-byteAt x p = x / 256 ^ p % 256
-
 -- lent bytes after k bytes of a number were stored from a place on
 unfoldable pub puts : ℕ → ℕ → ℕ → List ℕ → List ℕ
 puts zero x at d = d

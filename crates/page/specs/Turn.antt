@@ -7,7 +7,8 @@ use lib.Bits.{bitAnd, bitOr}
 use mathlib.Core.Bool.{Bool, true}
 use Rattle.page.specs.Layout.{DeltaWidth, SplitWidth}
 use Rattle.page.specs.Page.{fit}
-use Rattle.page.specs.Strides.{byteAt, puts}
+use Rattle.page.specs.Strides.{puts}
+use Rattle.planes.specs.Plane.{byteAt}
 
 -- elements that split pages store, with delta where it says so: each fits its width
 pub record Codable (isDelta : Bool) (w : ℕ) (xs : List ℕ) : Type 0 where

@@ -5,13 +5,15 @@ ghost use Prim.Native.Nat.{ℕ, _+_, _*_, _-_, _<_, _≤_};
 ghost use lib.ListN.{length};
 ghost use lib.Dec.{eqb};
 ghost use Rattle.numbers.specs.Rows.{over};
-ghost use Rattle.page.specs.Layout.{WholeBytes};
+ghost use Rattle.page.specs.Layout.{WholeBytes, unplanes};
 ghost use Rattle.page.specs.Page.{readable, sizeOf, laid, elements};
 ghost use Rattle.page.specs.Strides.{spread, Spreads};
 use crate::bit::unpack;
 use crate::difference::sum_up;
 use crate::number::number_at;
 use crate::signed::unzigzag_all;
+use planes::clear_above;
+use planes::place_plane;
 
 // The first n words become the numbers of k bytes that start `apart` places apart, their bytes `step` places apart. Called with k a literal: the compiler
 // makes a loop for each.
@@ -42,17 +44,18 @@ fn plain_out(page: &[u8], k: usize, n: usize, out: &mut [u64])
     }
 }
 
-// The numbers of a split page.
+// The numbers of a split page, plane after plane: each is gone through once, and its bytes are placed into words that were cleared before.
 fn split_out(page: &[u8], k: usize, n: usize, out: &mut [u64])
-    requires { ⌜ WholeBytes k × (2 ≤ k) × (n ≤ length (now out)) × Spreads k 1 n n (length (now page)) ⌝ }
-    ensures { λ _. ⌜ now (out .exit) ≡ over (spread k 1 n n 0 (now (page .entry))) (now (out .entry)) ⌝ }
+    requires { ⌜ (k ≤ 8) × (n ≤ length (now out)) × (k * n ≤ length (now page)) ⌝ }
+    ensures { λ _. ⌜ now (out .exit) ≡ over (unplanes k n (now (page .entry))) (now (out .entry)) ⌝ }
 {
-    if k == 2 {
-        spread_out(page, 2, 1, n, n, out);
-    } else if k == 4 {
-        spread_out(page, 4, 1, n, n, out);
-    } else {
-        spread_out(page, 8, 1, n, n, out);
+    clear_above(k, &mut out[..n]);
+    let mut p = 0;
+    while p < k {
+        let from = p * n;
+        let to = from + n;
+        place_plane(p, &page[from..to], out);
+        p += 1;
     }
 }
 

@@ -8,7 +8,8 @@ use native.Mathlib.Omega.{arith}
 use denote.Ref.{now}
 use Rattle.numbers.specs.Rows.{over}
 use Rattle.page.specs.Page.{elements, Outcome, outcomeOf, decodeOutcome}
-use Rattle.page.proofs.Decoding.{Decodes, decodes, decoded-accepted, decoded-refused, rest-of, put-rest}
+use Rattle.page.proofs.Decoding.{Decodes, decodes, decoded-accepted, decoded-refused}
+use Rattle.planes.proofs.Parts.{rest-of, put-rest}
 use Rattle.page.proofs.decode_page.Statement.{statement}
 use borrow.Author.Needs.{needs}
 use Rattle.page.proofs.decode_page.Tie as tie

@@ -1,6 +1,6 @@
 -- `page::bit::pack` meets its contract. The invariant: the first m bytes are those of the page. Assumes nothing.
 use Rattle.page.proofs.Bits.{length-packed, getD-packed}
-use Rattle.page.proofs.Filling.{Filled, fill-turn, fill-done}
+use Rattle.planes.proofs.Filling.{Filled, fill-turn, fill-done}
 use Rattle.page.specs.Layout.{packed}
 use Rattle.page.proofs.bit.pack.Statement.{statement}
 use mathlib.Core.Path.{refl, sym, _∙_}

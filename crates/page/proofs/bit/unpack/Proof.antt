@@ -7,7 +7,7 @@ use borrow.Author.Needs.{needs}
 use denote.Ref.{now}
 use Rattle.page.specs.Layout.{bitAt, unpacked}
 use Rattle.page.proofs.Bits.{length-unpacked, getD-unpacked}
-use Rattle.page.proofs.Filling.{Filled, fill-turn, fill-done}
+use Rattle.planes.proofs.Filling.{Filled, fill-turn, fill-done}
 use Rattle.page.proofs.bit.unpack.Statement.{statement}
 use Rattle.page.proofs.bit.unpack.Tie as tie
 

@@ -9,7 +9,7 @@ use lib.Seq.{length-take-le, getD-take}
 use denote.Ref.{now}
 use Rattle.page.specs.Layout.{sums}
 use Rattle.page.proofs.Delta.{length-sums, sums-turn}
-use Rattle.page.proofs.Filling.{Filled, fill-turn, fill-read, fill-done}
+use Rattle.planes.proofs.Filling.{Filled, fill-turn, fill-read, fill-done}
 use Rattle.page.proofs.difference.sum_up.Statement.{statement}
 use Rattle.page.proofs.difference.sum_up.Tie as tie
 

@@ -1,5 +1,5 @@
 -- `page::number::byte_of` meets its contract. Assumes nothing.
-use Rattle.page.proofs.Laid.{bytes-power}
+use Rattle.planes.proofs.Words.{bytes-power}
 use Rattle.page.proofs.number.byte_of.Statement.{statement}
 use mathlib.Core.Path.{sym, ap}
 use Prim.Native.Nat.{ℕ, _/_, _%_}

@@ -7,7 +7,7 @@ use lib.ListN.{length}
 use denote.Ref.{now}
 use Rattle.page.specs.Strides.{spread}
 use Rattle.page.proofs.Strided.{length-spread, getD-spread}
-use Rattle.page.proofs.Filling.{Filled, fill-turn, fill-done}
+use Rattle.planes.proofs.Filling.{Filled, fill-turn, fill-done}
 use Rattle.page.proofs.read.spread_out.Statement.{statement}
 use Rattle.page.proofs.read.spread_out.Tie as tie
 

@@ -7,7 +7,7 @@ use lib.ListN.{getD, take, length-map}
 use lib.Seq.{length-take-le, getD-take}
 use denote.Ref.{now}
 use Rattle.page.specs.Layout.{unzigzagged}
-use Rattle.page.proofs.Filling.{Filled, fill-turn, fill-read, fill-done, getD-mapped}
+use Rattle.planes.proofs.Filling.{Filled, fill-turn, fill-read, fill-done, getD-mapped}
 use Rattle.page.proofs.signed.unzigzag_all.Statement.{statement}
 use Rattle.page.proofs.signed.unzigzag_all.Tie as tie
 

@@ -8,7 +8,7 @@ use lib.ListN.{length, getD}
 use denote.Ref.{now}
 use Rattle.page.specs.Layout.{plain}
 use Rattle.page.proofs.Plain.{length-plain}
-use Rattle.page.proofs.Filling.{Filled, fill-done}
+use Rattle.planes.proofs.Filling.{Filled, fill-done}
 use Rattle.page.specs.Strides.{puts}
 use Rattle.page.proofs.Puts.{fill-puts, plain-byte}
 use Rattle.page.proofs.write.write_plain.Statement.{statement}

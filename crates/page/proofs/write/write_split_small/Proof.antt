@@ -11,7 +11,7 @@ use Rattle.page.specs.Page.{codedBy}
 use Rattle.page.proofs.Types.{whole-split}
 use Rattle.page.proofs.Planes.{length-planes}
 use Rattle.page.proofs.Places.{length-coded, some-element, plane-of, byte-split}
-use Rattle.page.proofs.Filling.{Filled, fill-turn, fill-done}
+use Rattle.planes.proofs.Filling.{Filled, fill-turn, fill-done}
 use Rattle.page.proofs.write.write_split_small.Statement.{statement}
 use Rattle.page.proofs.write.write_split_small.Tie as tie
 
