@@ -97,6 +97,13 @@ length-cleared k ws = go (ltb k 8)
     go true = length-replicate (length ws) 0
     go false = refl
 
+-- the first n of the words so cleared, with the others behind them
+pub start-is : (k n : ℕ) (ws new : List ℕ) → n ≤ length ws → new ≡ cleared k (take n ws) → new ++ drop n ws ≡ over (cleared k (take n ws)) ws
+start-is k n ws new h e = ap₂ (λ (l : List ℕ) (m : ℕ). l ++ drop m ws) e (sym (length-cleared k (take n ws) ∙ length-take-le n ws h))
+
+pub start-long : (k n : ℕ) (ws : List ℕ) → n ≤ length ws → length (over (cleared k (take n ws)) ws) ≡ length ws
+start-long k n ws h = length-over (cleared k (take n ws)) ws (omega (arith, length-cleared k (take n ws), length-take-le n ws h))
+
 nothing-above : (k : ℕ) (ws : List ℕ) → k ≤ 8 → Below (256 ^ 8) ws → (i : ℕ) → i < length ws → getD (cleared k ws) i 0 / 256 ^ k ≡ 0
 unfolding cleared
 nothing-above k ws h below i l = go (ltb k 8) refl
@@ -126,7 +133,7 @@ planes-in-turn k n page ws small room lent octets words =
     n-numbers = length-unplanes k n page room
 
     long : length start ≡ length ws
-    long = length-over first ws (omega (arith, n-first))
+    long = start-long k n ws lent
 
     over-long : length (over (unplanes k n page) ws) ≡ length ws
     over-long = length-over (unplanes k n page) ws (omega (arith, n-numbers))

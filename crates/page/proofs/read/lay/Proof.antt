@@ -3,16 +3,15 @@ use mathlib.Core.Path.{_≡_, sym, ap, _∙_, subst}
 use mathlib.Core.List.{List}
 use Prim.Native.Nat.{ℕ, _*_, _/_, _≤_}
 use native.Mathlib.Nat.{mul-comm}
-use native.Mathlib.Omega.{arith}
 use lib.ListN.{length}
 use denote.Ref.{now}
-use Rattle.page.specs.Layout.{WholeBytes}
+use Rattle.page.specs.Layout.{WholeBytes, unplanes}
 use Rattle.column_type.specs.Types.{widthOf}
 use Rattle.numbers.specs.Rows.{over}
 use Rattle.page.specs.Strides.{spread}
-use Rattle.page.proofs.Types.{OfBytes, of-bytes, whole, split-bytes}
-use Rattle.page.proofs.Strided.{unplanes-spread, unplain-spread}
-use Rattle.page.proofs.Laid.{size-of, split-place, plain-place, laid-split, laid-plain}
+use Rattle.page.proofs.Types.{OfBytes, of-bytes, whole}
+use Rattle.page.proofs.Strided.{unplain-spread}
+use Rattle.page.proofs.Laid.{size-of, plain-place, laid-split, laid-plain}
 use Rattle.page.proofs.read.lay.Statement.{statement}
 use borrow.Author.Needs.{needs}
 use Rattle.page.proofs.read.lay.Tie as tie
@@ -34,8 +33,7 @@ split-out-requires : tie.Need-split-out-requires
 split-out-requires c κs = let s = c .before .before .before .before .before .before in
     let o = whole (s .args .column-type) (of-whole-bytes s) in
     let e : c .before .before .before .width-of .result / 8 ≡ widthOf (s .args .column-type) / 8 = ap (λ (w : ℕ). w / 8) (c .before .before .before .width-of .ensures) in
-    let two = split-bytes (of-whole-bytes s .of-split (sym (c .before .before .is-split .ensures) ∙ c .before .if1 .taken)) in
-    (subst WholeBytes (sym e) (o .bytes), omega arith, s .pre .3, λ i h. rw e (split-place _ _ i _ (o .some) (room s) h))
+    rw e (o .most, s .pre .3, subst (λ (m : ℕ). m ≤ length (now (s .args .page))) (mul-comm (s .args .n) (widthOf (s .args .column-type) / 8)) (room s))
 
 plain-out-requires : tie.Need-plain-out-requires
 plain-out-requires c κs = let s = c .before .before .before .before .before .before in
@@ -49,15 +47,10 @@ same-length c = search needs
 returns : tie.Need-returns
 returns c = let s = c .before .before .before .before .before .before .before .before .before in
     let a = s .args in
-    let k : ℕ = widthOf (a .column-type) / 8 in
-    let e : c .before .before .before .before .before .before .width-of .result / 8 ≡ k =
-    ap (λ (w : ℕ). w / 8) (c .before .before .before .before .before .before .width-of .ensures) in
-    let r : k * a .n ≤ length (now (a .page)) = subst (λ (m : ℕ). m ≤ length (now (a .page))) (mul-comm (a .n) k) (room s) in
     c .before .before .split-out .ensures
     ∙ ap (λ (l : List ℕ). over l (now (a .out)))
-    (ap (λ (j : ℕ). spread j 1 (a .n) (a .n) 0 (now (a .page))) e ∙ unplanes-spread k (a .n) (now (a .page)) r
-    ∙ sym (laid-split (a .column-type) (a .n) (now (a .page)) (s .pre .1)
-    (sym (c .before .before .before .before .before .is-split .ensures) ∙ c .before .before .before .before .if1 .taken)))
+    (ap (λ (w : ℕ). unplanes (w / 8) (a .n) (now (a .page))) (c .before .before .before .before .before .before .width-of .ensures)
+    ∙ sym (laid-split (a .column-type) (a .n) (now (a .page)) (s .pre .1) (sym (c .before .before .before .before .before .is-split .ensures) ∙ c .before .before .before .before .if1 .taken)))
 
 same-length-2 : tie.Need-same-length-2
 same-length-2 c = search needs
