@@ -64,7 +64,10 @@ def flipped(content, place):
     return content[:place] + bytes([content[place] ^ 0x01]) + content[place + 1 :]
 
 
-# The cases. Each word of a lent table is 9 before the call, and each byte of a lent page EE; a refusal leaves them so.
+# The cases. Each word of a lent table is 9 before the call, each byte of words that a page is decoded to 9 too, and each byte of a lent page EE;
+# a refusal leaves them so.
+
+NINES = 0x0909090909090909
 
 
 def case(called, name, line, number_1=0, number_2=0, words=(), page_room=0, first=b"", second=b"", zeros_for=0, zeros=0):
@@ -73,9 +76,9 @@ def case(called, name, line, number_1=0, number_2=0, words=(), page_room=0, firs
     CASES.append((name, b"".join(u64(n) for n in numbers) + first + second, line))
 
 
-def table(words, rows=()):
+def table(words, rows=(), old=9):
     """How a lent table of so many words is printed, with these words in front."""
-    return " |" + "".join(f" {w}" for w in list(rows) + [9] * (words - len(rows)))
+    return " |" + "".join(f" {w}" for w in list(rows) + [old] * (words - len(rows)))
 
 
 def kept(words):
@@ -378,12 +381,12 @@ def decode(name, column_type, elements, content, words, start, checksum, line):
 
 def decoded(name, column_type, content, values, words=None, start=0, checksum=0):
     lent = start + len(values) if words is None else words
-    line = f" accepted {len(values)}" + table(lent, [9] * start + list(values))
+    line = f" accepted {len(values)}" + table(lent, [NINES] * start + list(values), NINES)
     decode(name, column_type, len(values), content, lent, start, checksum, line)
 
 
 def not_decoded(number, name, column_type, elements, content, words=4, start=0, checksum=0):
-    decode(name, column_type, elements, content, words, start, checksum, f" refused 4 {number}" + kept((words,)))
+    decode(name, column_type, elements, content, words, start, checksum, f" refused 4 {number}" + table(words, old=NINES))
 
 
 def summed(content):
@@ -427,6 +430,45 @@ decoded("decode_index32_1_1_3", 0x0F, b"\x01\x00\x02" + bytes(9), (1, 1, 3))
 decoded("decode_deltas_5_3", 0x0F, b"\x05\xfe\x00\xff\x00\xff\x00\xff", (5, 3))
 # 0, 65535, 65534 and 1 of zigzag at 16 bits: 0, -32768, 32767 and -1 in two's complement.
 decoded("decode_zigzag", 0x1C, b"\x00\xff\xfe\x01\x00\xff\xff\x00", (0, 0x8000, 0x7FFF, 0xFFFF))
+
+
+def planes(values, count):
+    return b"".join(bytes(v >> 8 * p & 255 for v in values) for p in range(count))
+
+
+# Bytes of 19 elements that all differ from those beside, below and above them.
+NINETEEN = [sum((37 * i + 59 * p + 1) % 251 << 8 * p for p in range(8)) for i in range(19)]
+
+
+def nineteen(name, column_type, count):
+    values = [v % 256**count for v in NINETEEN]
+    decoded(name, column_type, planes(values, count), values, words=23, start=3)
+
+
+nineteen("decode_16_bits_split_19", 0x15, 2)
+nineteen("decode_32_bits_split_19", 0x14, 4)
+nineteen("decode_64_bits_split_19", 0x13, 8)
+
+# Planes to place, each into lent words that are given.
+
+
+def placed(name, number, plane, old, new):
+    case(7, name, table(len(old), new), number, words=(len(old),), first=b"".join(u64(w) for w in old), second=plane)
+
+
+WORDS = [0x1122334455667788, 0x99AABBCCDDEEFF00, 2**64 - 1]
+placed("place_plane_0", 0, b"\x0a\x0b\x0c", WORDS, [0x112233445566770A, 0x99AABBCCDDEEFF0B, 0xFFFFFFFFFFFFFF0C])
+placed("place_plane_3", 3, b"\x0a\x0b\x0c", WORDS, [0x112233440A667788, 0x99AABBCC0BEEFF00, 0xFFFFFFFF0CFFFFFF])
+placed("place_plane_7", 7, b"\x0a\x0b\x0c", WORDS, [0x0A22334455667788, 0x0BAABBCCDDEEFF00, 0x0CFFFFFFFFFFFFFF])
+placed("place_plane_8_of_8", 8, b"\x0a\x0b\x0c", WORDS, WORDS)
+placed("place_plane_past_64_bits", 2**64 - 1, b"\x0a\x0b\x0c", WORDS, WORDS)
+placed("place_plane_of_2_bytes", 1, b"\x0a\x0b", WORDS, [0x1122334455660A88, 0x99AABBCCDDEE0B00, 2**64 - 1])
+placed("place_plane_of_4_bytes", 1, b"\x0a\x0b\x0c\x0d", WORDS, [0x1122334455660A88, 0x99AABBCCDDEE0B00, 0xFFFFFFFFFFFF0CFF])
+placed("place_plane_without_bytes", 1, b"", WORDS, WORDS)
+placed("place_plane_without_words", 1, b"\x0a", [], [])
+for number in range(8):
+    turned = [w ^ (w >> 8 * number & 255) << 8 * number ^ (3 * i + 5) << 8 * number for i, w in enumerate(NINETEEN)]
+    placed(f"place_plane_{number}_of_19_bytes", number, bytes(3 * i + 5 for i in range(19)), NINETEEN, turned)
 
 # Pages to encode: `values` are the lent words.
 

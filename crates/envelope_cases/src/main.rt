@@ -11,10 +11,12 @@ use wire::Text;
 // What is called, as `call` numbers it.
 const CALLED: usize = 0;
 
-// The length of the file, or the column type.
+// The length of the file, or the column type, or the number of a plane.
 const FILE_LENGTH: usize = 8;
 
 const COLUMN_TYPE: usize = 8;
+
+const PLANE: usize = 8;
 
 // The entries of the cluster, or the elements of the page.
 const ENTRIES: usize = 16;
@@ -36,7 +38,7 @@ const CHECKSUM: usize = 40;
 // How many bytes are lent for a page.
 const PAGE_ROOM: usize = 48;
 
-// Two parts stand behind the numbers, envelopes or a page: how many bytes the first has; the second has the rest.
+// Two parts stand behind the numbers, envelopes or a page, or words and a plane: how many bytes the first has; the second has the rest.
 const FIRST_PART: usize = 56;
 
 // Which part, 1 or 2, is zeros instead, 0 for neither; and how many zeros.
@@ -100,6 +102,7 @@ fn call(case: &[u8], first: &[u8], second: &[u8]) {
         3 => call_page_list(case, first, second),
         4 => call_decode(case, first),
         5 => call_encode(case, first),
+        7 => call_place(case, first, second),
         _ => {
             io::write_all(STDOUT_FILENO, b" ");
             io::print_hex(STDOUT_FILENO, checksum::crc32(first) as u64, 8);
@@ -163,7 +166,7 @@ fn call_page_list(case: &[u8], header: &[u8], envelope: &[u8]) {
 }
 
 fn call_decode(case: &[u8], page: &[u8]) {
-    let mut words = [9u64; 64];
+    let mut words = [0x0909090909090909u64; 64];
     let out = lent(&mut words, numbers::little_8(case, FIRST_TABLE));
     let column_type = numbers::little_2(case, COLUMN_TYPE) as u16;
     let elements = numbers::little_8(case, ELEMENTS) as usize;
@@ -185,6 +188,15 @@ fn call_encode(case: &[u8], bytes: &[u8]) {
     take_words(bytes, from);
     show_page(page::encode_page(column_type, elements, checksum, from, start, page));
     show_bytes(page);
+}
+
+// The lent words are those that some bytes spell.
+fn call_place(case: &[u8], bytes: &[u8], plane: &[u8]) {
+    let mut words = [0u64; 64];
+    let out = lent(&mut words, numbers::little_8(case, FIRST_TABLE));
+    take_words(bytes, out);
+    planes::place_plane(numbers::little_8(case, PLANE) as usize, plane, out);
+    show_words(out);
 }
 
 fn show_page(answer: PageAnswer) {

@@ -49,13 +49,6 @@ size-of t n o =
 
 -- the places that are read lie in the page
 
-pub split-place : (k n i size : ℕ) → 1 ≤ k → n * k ≤ size → i < n → i * 1 + (k - 1) * n < size
-split-place zero n i size h r l = absurd (omega arith)
-split-place (suc k) n i size h r l =
-    let e : suc k - 1 ≡ k = omega arith in
-    let f : n * suc k ≡ k * n + n = mul-comm n (suc k) ∙ suc-mul k n in
-    rw e (omega arith)
-
 pub plain-place : (k n i size : ℕ) → 1 ≤ k → n * k ≤ size → i < n → i * k + (k - 1) * 1 < size
 plain-place k n i size h r l =
     let m : suc i * k ≤ n * k = mul-le-mul-right k l in

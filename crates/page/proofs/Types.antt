@@ -122,16 +122,13 @@ whole-split w =
 pub whole : (t : ℕ) → OfBytes t → Whole (widthOf t)
 whole t o = ⊎-elim (λ e. whole-at (widthOf t) 1 e (inl refl) (omega arith) (omega arith)) (whole-split (widthOf t)) (o .width)
 
--- the widths of split elements are at least 1 and at most 64, and their bytes at least 2
+-- the widths of split elements are at least 1 and at most 64
 
 pub width-pos : {w : ℕ} → SplitWidth w → 1 ≤ w
 width-pos = ⊎-elim (λ e. omega arith) (⊎-elim (λ e. omega arith) (λ e. omega arith))
 
 pub split-most : {w : ℕ} → SplitWidth w → w ≤ 64
 split-most = ⊎-elim (λ e. omega arith) (⊎-elim (λ e. omega arith) (λ e. omega arith))
-
-pub split-bytes : {w : ℕ} → SplitWidth w → 2 ≤ w / 8
-split-bytes = ⊎-elim (λ e. omega arith) (⊎-elim (λ e. omega arith) (λ e. omega arith))
 
 -- what is left when the other widths are ruled out
 pub eight-left : (k : ℕ) → WholeBytes k → (k ≡ 1 → ⊥) → (k ≡ 2 → ⊥) → (k ≡ 4 → ⊥) → k ≡ 8

@@ -36,11 +36,10 @@ joined-start u keep plane old = (refl, refl)
 module _ (u keep : ℕ) (plane old : List ℕ) (room : length plane ≤ length old) (octets : (i : ℕ) → getD plane i 0 < 256) where
   pub join-next : (i b : ℕ) (out : List ℕ) → Joined u keep plane old i out → i < length plane → b ≡ getD plane i 0 → Joined u keep plane old (i + 1) (joinAt u keep b i out)
   join-next i b out j h e =
-      let l : List ℕ = joinedBy (joins u keep) (take i plane) old in
-      (
+      let l : List ℕ = joinedBy (joins u keep) (take i plane) old in (
         ap (λ (o : List ℕ). joinAt u keep b i o) (j .0) ∙ ap (λ (c : ℕ). joinAt u keep c i l) e
-        ∙ joined-more (joins u keep) plane old i h (omega arith)
-        ∙ ap (λ (m : ℕ). joinedBy (joins u keep) (take m plane) old) (sym (add-one i)),
+            ∙ joined-more (joins u keep) plane old i h (omega arith)
+            ∙ ap (λ (m : ℕ). joinedBy (joins u keep) (take m plane) old) (sym (add-one i)),
         length-set out i (joins u keep b (getD out i 0)) ∙ j .1,
       )
 

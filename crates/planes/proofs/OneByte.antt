@@ -93,8 +93,7 @@ places-one-plane k p plane xs there octets = (
   λ i h l.
       let e = getD-joined (withByte k p) plane xs i h l in
       let b : ℕ = getD plane i 0 in
-      let x : ℕ = getD xs i 0 in
-      (
+      let x : ℕ = getD xs i 0 in (
         ap (λ (y : ℕ). byteAt y p) e ∙ byte-new k p b x there (octets i),
         λ q n. ap (λ (y : ℕ). byteAt y q) e ∙ byte-other k p b x there (octets i) q n,
       ),

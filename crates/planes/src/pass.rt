@@ -16,8 +16,15 @@ fn place_eights(unit: u64, keep: u64, plane: &[u8], out: &mut [u64]) -> usize
     ensures { λ r. ⌜ (r ≤ length (now (plane .entry))) × (now (out .exit) ≡ joinedBy (joins unit keep) (take r (now (plane .entry))) (now (out .entry))) ⌝ }
 {
     let mut i = 0;
-    while 9 <= plane.len() - i {
-        join_eight(unit, keep, eight_at(plane, i), eight_at(plane, i + 1), i, out);
+    while 8 < plane.len() - i {
+        join_eight(
+            unit,
+            keep,
+            eight_at(plane, i),
+            eight_at(plane, i + 1),
+            i,
+            out,
+        );
         i += 8;
     }
     i
@@ -29,7 +36,7 @@ fn place_each(unit: u64, keep: u64, plane: &[u8], out: &mut [u64])
     ensures { λ _. ⌜ now (out .exit) ≡ joinedBy (joins unit keep) (now (plane .entry)) (now (out .entry)) ⌝ }
 {
     let mut i = 0;
-    while i < plane.len() {
+    while 0 < plane.len() - i {
         join_at(unit, keep, wide(plane[i]), i, out);
         i += 1;
     }

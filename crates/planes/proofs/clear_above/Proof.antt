@@ -4,7 +4,7 @@ use mathlib.Core.List.{List, _++_, append-nil}
 use Prim.Native.Nat.{ℕ, _-_, _≤_}
 use native.Mathlib.Nat.{le-of-eq}
 use native.Mathlib.Omega.{arith}
-use lib.ListN.{length, drop, replicate, length-replicate, getD-replicate, drop-of-length-le}
+use lib.ListN.{length, replicate, length-replicate, getD-replicate, drop-of-length-le}
 use denote.Ref.{now}
 use borrow.Author.Tests.{lt-ltb, le-ltb}
 use Rattle.planes.specs.Plane.{cleared}
@@ -20,7 +20,7 @@ abbrev μ-loop : tie.MeasureT-loop
 
 returns : tie.Need-returns Inv-loop μ-loop
 unfolding cleared
-returns c = rw (le-ltb _ _ (c .if1 .taken))
+returns c = rw (le-ltb (c .before .args .k) 8 (omega arith))
 
 loop-holds : tie.Need-loop-holds Inv-loop μ-loop
 loop-holds c = (omega arith, (refl, refl))
@@ -51,7 +51,7 @@ unfolding cleared
 returns-2 c = let l = c .before .loop in
     let d : List ℕ = now (c .before .before .before .args .out) in
     let n = length-replicate {A = ℕ} (length d) 0 in
-    rw (lt-ltb _ _ (c .before .before .if1 .left)) (l .inv .1 .0 ∙ fill-done (replicate (length d) 0) d (l .i) (omega arith)
+    rw (lt-ltb (c .before .before .before .args .k) 8 (omega (arith, c .before .before .if1 .left))) (l .inv .1 .0 ∙ fill-done (replicate (length d) 0) d (l .i) (omega arith)
     ∙ ap (λ (t : List ℕ). replicate (length d) 0 ++ t) (drop-of-length-le d (le-of-eq (sym n))) ∙ append-nil (replicate (length d) 0))
 
 pub clear-above-spec : {M : Type 1} → statement M

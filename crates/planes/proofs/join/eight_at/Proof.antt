@@ -5,159 +5,118 @@ use Rattle.numbers.specs.Numbers.{little}
 use borrow.Author.Needs.{needs}
 use Rattle.planes.proofs.join.eight_at.Statement.{statement}
 use Rattle.planes.proofs.join.eight_at.Tie as tie
-use Rattle.planes.proofs.join.eight_at.Reads as reads
-use Rattle.planes.proofs.join.eight_at.Lts as lts
-use Rattle.planes.proofs.join.wide.Reads as wide-reads
 
--- src/join.rt:20:10
 shared-slice-read-wide : tie.Need-shared-slice-read-wide
 shared-slice-read-wide c = search needs
 
--- src/join.rt:20:5
 wide-requires : tie.Need-wide-requires
 wide-requires c κs = search needs
 
--- src/join.rt:21:24
 add-wide : tie.Need-add-wide
 add-wide c = search needs
 
--- src/join.rt:21:22
 shared-slice-read-wide-2 : tie.Need-shared-slice-read-wide-2
 shared-slice-read-wide-2 c = search needs
 
--- src/join.rt:21:17
 wide-requires-2 : tie.Need-wide-requires-2
 wide-requires-2 c κs = search needs
 
--- src/join.rt:21:11
 mul-result : tie.Need-mul-result
 mul-result c = search needs
 
--- src/join.rt:20:5
 add-result : tie.Need-add-result
 add-result c = search needs
 
--- src/join.rt:22:26
 add-wide-2 : tie.Need-add-wide-2
 add-wide-2 c = search needs
 
--- src/join.rt:22:24
 shared-slice-read-wide-3 : tie.Need-shared-slice-read-wide-3
 shared-slice-read-wide-3 c = search needs
 
--- src/join.rt:22:19
 wide-requires-3 : tie.Need-wide-requires-3
 wide-requires-3 c κs = search needs
 
--- src/join.rt:22:11
 mul-result-2 : tie.Need-mul-result-2
 mul-result-2 c = search needs
 
--- src/join.rt:20:5
 add-result-2 : tie.Need-add-result-2
 add-result-2 c = search needs
 
--- src/join.rt:23:29
 add-wide-3 : tie.Need-add-wide-3
 add-wide-3 c = search needs
 
--- src/join.rt:23:27
 shared-slice-read-wide-4 : tie.Need-shared-slice-read-wide-4
 shared-slice-read-wide-4 c = search needs
 
--- src/join.rt:23:22
 wide-requires-4 : tie.Need-wide-requires-4
 wide-requires-4 c κs = search needs
 
--- src/join.rt:23:11
 mul-result-3 : tie.Need-mul-result-3
 mul-result-3 c = search needs
 
--- src/join.rt:20:5
 add-result-3 : tie.Need-add-result-3
 add-result-3 c = search needs
 
--- src/join.rt:24:31
 add-wide-4 : tie.Need-add-wide-4
 add-wide-4 c = search needs
 
--- src/join.rt:24:29
 shared-slice-read-wide-5 : tie.Need-shared-slice-read-wide-5
 shared-slice-read-wide-5 c = search needs
 
--- src/join.rt:24:24
 wide-requires-5 : tie.Need-wide-requires-5
 wide-requires-5 c κs = search needs
 
--- src/join.rt:24:11
 mul-result-4 : tie.Need-mul-result-4
 mul-result-4 c = search needs
 
--- src/join.rt:20:5
 add-result-4 : tie.Need-add-result-4
 add-result-4 c = search needs
 
--- src/join.rt:25:34
 add-wide-5 : tie.Need-add-wide-5
 add-wide-5 c = search needs
 
--- src/join.rt:25:32
 shared-slice-read-wide-6 : tie.Need-shared-slice-read-wide-6
 shared-slice-read-wide-6 c = search needs
 
--- src/join.rt:25:27
 wide-requires-6 : tie.Need-wide-requires-6
 wide-requires-6 c κs = search needs
 
--- src/join.rt:25:11
 mul-result-5 : tie.Need-mul-result-5
 mul-result-5 c = search needs
 
--- src/join.rt:20:5
 add-result-5 : tie.Need-add-result-5
 add-result-5 c = search needs
 
--- src/join.rt:26:36
 add-wide-6 : tie.Need-add-wide-6
 add-wide-6 c = search needs
 
--- src/join.rt:26:34
 shared-slice-read-wide-7 : tie.Need-shared-slice-read-wide-7
 shared-slice-read-wide-7 c = search needs
 
--- src/join.rt:26:29
 wide-requires-7 : tie.Need-wide-requires-7
 wide-requires-7 c κs = search needs
 
--- src/join.rt:26:11
 mul-result-6 : tie.Need-mul-result-6
 mul-result-6 c = search needs
 
--- src/join.rt:20:5
 add-result-6 : tie.Need-add-result-6
 add-result-6 c = search needs
 
--- src/join.rt:27:38
 add-wide-7 : tie.Need-add-wide-7
 add-wide-7 c = search needs
 
--- src/join.rt:27:36
 shared-slice-read-wide-8 : tie.Need-shared-slice-read-wide-8
 shared-slice-read-wide-8 c = search needs
 
--- src/join.rt:27:31
 wide-requires-8 : tie.Need-wide-requires-8
 wide-requires-8 c κs = search needs
 
--- src/join.rt:27:11
 mul-result-7 : tie.Need-mul-result-7
 mul-result-7 c = search needs
 
--- src/join.rt:20:5
 add-result-7 : tie.Need-add-result-7
 add-result-7 c = search needs
 
--- src/join.rt:16:1
 returns : tie.Need-returns
 unfolding little
 returns c = simp add-assoc (omega arith)

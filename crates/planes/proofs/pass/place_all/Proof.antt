@@ -13,10 +13,6 @@ use Rattle.planes.proofs.Words.{unit-is, unit-fits, joins-with-byte}
 use borrow.Author.Needs.{needs}
 use Rattle.planes.proofs.pass.place_all.Statement.{statement}
 use Rattle.planes.proofs.pass.place_all.Tie as tie
-use Rattle.planes.proofs.pass.place_all.Reads as reads
-use Rattle.planes.proofs.pass.place_all.Lts as lts
-use Rattle.planes.proofs.pass.place_each.Reads as place-each-reads
-use Rattle.planes.proofs.pass.place_most.Reads as place-most-reads
 
 -- the unit is a power of 256, and a byte times it fits
 unit-at : (s : tie.Start) → 1 * 2 ^ (8 * s .args .p) % 2 ^ 64 ≡ 256 ^ s .args .p
@@ -29,55 +25,42 @@ fits s = subst (λ (u : ℕ). 256 * u ≤ 2 ^ 64) (sym (unit-at s)) (unit-fits (
 abbrev joinBy : ℕ → ℕ → ℕ → ℕ
 joinBy u = joins u (18446744073709551615 - 255 * u)
 
--- src/pass.rt:67:22
 mul-unit : tie.Need-mul-unit
 mul-unit c = search needs
 
--- src/pass.rt:67:16
 shl-unit : tie.Need-shl-unit
 shl-unit c = search needs
 
--- src/pass.rt:68:39
 mul-keep : tie.Need-mul-keep
 mul-keep c = omega (arith, fits (c .before .before))
 
--- src/pass.rt:68:16
 sub-keep : tie.Need-sub-keep
 sub-keep c = omega (arith, fits (c .before .before))
 
--- src/pass.rt:69:9
 place-most-requires : tie.Need-place-most-requires
 place-most-requires c κs = search needs
 
--- src/pass.rt:70:28
 sub-place-each : tie.Need-sub-place-each
 sub-place-each c = search needs
 
--- src/pass.rt:70:28
 part-place-each-start : tie.Need-part-place-each-start
 part-place-each-start c = search needs
 
--- src/pass.rt:70:28
 part-place-each-end : tie.Need-part-place-each-end
 part-place-each-end c = search needs
 
--- src/pass.rt:70:44
 mul-place-each : tie.Need-mul-place-each
 mul-place-each c = search needs
 
--- src/pass.rt:70:44
 sub-place-each-2 : tie.Need-sub-place-each-2
 sub-place-each-2 c = search needs
 
--- src/pass.rt:70:44
 part-place-each-start-2 : tie.Need-part-place-each-start-2
 part-place-each-start-2 c = search needs
 
--- src/pass.rt:70:44
 part-place-each-end-2 : tie.Need-part-place-each-end-2
 part-place-each-end-2 c = search needs
 
--- src/pass.rt:70:5
 place-each-requires : tie.Need-place-each-requires
 place-each-requires c κs = let s = c .before .before .before .before .before .before .before .before in
     let a = s .args in
@@ -87,11 +70,9 @@ place-each-requires c κs = let s = c .before .before .before .before .before .b
     let long : length mid ≡ length (now (a .out)) = search needs in
     (fits s, rw (rest-of d (now (a .plane)), rest-of d mid) (omega (arith, length-drop d (now (a .plane)), length-drop d mid, s .pre .1, long)))
 
--- src/pass.rt:63:1
 same-length : tie.Need-same-length
 same-length c = search needs
 
--- src/pass.rt:63:1
 returns : tie.Need-returns
 returns c = let s = c .before .before .before .before .before .before .before .before .before .before .before in
     let a = s .args in

@@ -1,9 +1,9 @@
 -- `planes::pass::place_each` meets its contract. The invariant: the first i bytes are joined. Assumes nothing.
-use mathlib.Core.Path.{refl, sym, ap, _∙_, subst}
+use mathlib.Core.Path.{sym, ap, _∙_, subst}
 use mathlib.Core.List.{List}
 use Prim.Native.Nat.{ℕ, _+_, _-_, _≤_}
 use native.Mathlib.Omega.{arith}
-use lib.ListN.{length, take}
+use lib.ListN.{length}
 use lib.Seq.{take-all}
 use denote.Ref.{now}
 use Rattle.planes.specs.Plane.{joinedBy}
@@ -21,6 +21,9 @@ abbrev μ-loop : tie.MeasureT-loop
 loop-holds : tie.Need-loop-holds Inv-loop μ-loop
 loop-holds c = let a = c .before .before .args in
     (omega arith, joined-start (a .unit) (a .keep) (now (a .plane)) (now (a .out)))
+
+sub-loop : tie.Need-sub-loop Inv-loop μ-loop
+sub-loop c = omega arith
 
 shared-slice-read-wide : tie.Need-shared-slice-read-wide Inv-loop μ-loop
 shared-slice-read-wide c = omega arith
@@ -45,7 +48,7 @@ loop-again c = let s = c .before .before .before .before .before .before .before
       omega arith,
       subst (Joined (a .unit) (a .keep) (now (a .plane)) (now (a .out)) (l .i + 1)) (sym (c .before .before .join-at .ensures))
           (join-next (a .unit) (a .keep) (now (a .plane)) (now (a .out)) (s .pre .1) (λ j. omega (arith, c .before .before .before .before .before .before .before .before .before .shared-slice-known .given j))
-          (l .i) (c .before .before .before .before .wide .result) (l .out) (l .inv .1) (c .before .before .before .before .before .before .loop-test .taken) (c .before .before .before .before .wide .ensures .0)),
+          (l .i) (c .before .before .before .before .wide .result) (l .out) (l .inv .1) (omega (arith, c .before .before .before .before .before .before .loop-test .taken)) (c .before .before .before .before .wide .ensures .0)),
     )
 
 same-length : tie.Need-same-length Inv-loop μ-loop
@@ -63,6 +66,7 @@ place-each-spec =
     Inv-loop
     μ-loop
     loop-holds
+    sub-loop
     shared-slice-read-wide
     wide-requires
     join-at-requires
