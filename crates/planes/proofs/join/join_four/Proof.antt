@@ -1,6 +1,6 @@
 -- `planes::join::join_four` meets its contract. Assumes nothing.
 use mathlib.Core.Path.{ap, _∙_}
-use Prim.Native.Nat.{_+_, _/_}
+use Prim.Native.Nat.{_+_}
 use Rattle.planes.specs.Join.{joinTwo, joinFour}
 use borrow.Author.Needs.{needs}
 use Rattle.planes.proofs.join.join_four.Statement.{statement}
@@ -21,7 +21,7 @@ same-length c = search needs
 returns : tie.Need-returns
 unfolding joinFour
 returns c = let a = c .before .before .before .before .before .before .before .before .before .args in
-    c .before .before .join-two2 .ensures ∙ ap (joinTwo (a .unit) (a .keep) (a .x / 65536) (a .y / 65536) (a .at + 2)) (c .before .before .before .before .before .before .join-two .ensures)
+    c .before .before .join-two2 .ensures ∙ ap (joinTwo (a .unit) (a .keep) (a .c) (a .d) (a .at + 2)) (c .before .before .before .before .before .before .join-two .ensures)
 
 pub join-four-spec : {M : Type 1} → statement M
 join-four-spec =

@@ -1,6 +1,6 @@
 -- `planes::join::join_two` meets its contract. Assumes nothing.
 use mathlib.Core.Path.{ap, _∙_}
-use Prim.Native.Nat.{_+_, _%_}
+use Prim.Native.Nat.{_+_}
 use Rattle.planes.specs.Join.{joinAt, joinTwo}
 use borrow.Author.Needs.{needs}
 use Rattle.planes.proofs.join.join_two.Statement.{statement}
@@ -21,7 +21,7 @@ same-length c = search needs
 returns : tie.Need-returns
 unfolding joinTwo
 returns c = let a = c .before .before .before .before .before .before .before .before .before .args in
-    c .before .before .join-at2 .ensures ∙ ap (joinAt (a .unit) (a .keep) (a .y % 256) (a .at + 1)) (c .before .before .before .before .before .before .join-at .ensures)
+    c .before .before .join-at2 .ensures ∙ ap (joinAt (a .unit) (a .keep) (a .b) (a .at + 1)) (c .before .before .before .before .before .before .join-at .ensures)
 
 pub join-two-spec : {M : Type 1} → statement M
 join-two-spec =

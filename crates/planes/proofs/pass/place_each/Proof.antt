@@ -47,7 +47,7 @@ loop-again c = let s = c .before .before .before .before .before .before .before
     let l = c .before .before .before .before .before .before .before .loop in (
       omega arith,
       subst (Joined (a .unit) (a .keep) (now (a .plane)) (now (a .out)) (l .i + 1)) (sym (c .before .before .join-at .ensures))
-          (join-next (a .unit) (a .keep) (now (a .plane)) (now (a .out)) (s .pre .1) (λ j. omega (arith, c .before .before .before .before .before .before .before .before .before .shared-slice-known .given j))
+          (join-next (a .unit) (a .keep) (now (a .plane)) (now (a .out)) (s .pre .1)
           (l .i) (c .before .before .before .before .wide .result) (l .out) (l .inv .1) (omega (arith, c .before .before .before .before .before .before .loop-test .taken)) (c .before .before .before .before .wide .ensures .0)),
     )
 
