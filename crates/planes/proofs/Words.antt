@@ -10,7 +10,7 @@ use lib.Pow.{pow-add, pow-pos, pow-lt}
 use borrow.Author.Tests.{lt-ltb, le-ltb}
 use Rattle.numbers.specs.Choice.{pick}
 use Rattle.planes.specs.Plane.{withByte}
-use Rattle.planes.specs.Join.{joins}
+use Rattle.planes.specs.Join.{others, joins}
 
 pub bytes-power : (k : ℕ) → 256 ^ k ≡ 2 ^ (8 * k)
 bytes-power zero = refl
@@ -72,7 +72,7 @@ module _ (p : ℕ) (small : p < 8) where
       subst (λ (u : ℕ). 256 * u ≤ 2 ^ 64) (sym (bytes-power p)) (omega arith)
 
   -- the bits that stay
-  kept : 18446744073709551615 - 255 * v ≡ (2 ^ (j + 8) - 256) * v + (v - 1)
+  kept : others v ≡ (2 ^ (j + 8) - 256) * v + (v - 1)
   kept =
       let a = all-bits in
       let o = pow-pos (8 * p) in
@@ -95,7 +95,7 @@ module _ (p : ℕ) (small : p < 8) where
         subst (λ (x : ℕ). x < 2 ^ j) (sym (div-div-eq-div-mul w v 256))
         (div-lt-iff-lt-mul {x = w} {y = 2 ^ j} q .1 (subst (λ (x : ℕ). w < x) (sym e) word))
 
-    staying : bitAnd w (18446744073709551615 - 255 * v) ≡ h * 256 * v + w % v
+    staying : bitAnd w (others v) ≡ h * 256 * v + w % v
     staying =
         let o = pow-pos (8 * p) in
         let low : v - 1 < v = omega arith in
@@ -110,12 +110,12 @@ module _ (p : ℕ) (small : p < 8) where
         ∙ or-block (8 * p) (h * 256) b (w % v) 0 (mod-lt w o) o
         ∙ ap₂ (λ (x y : ℕ). x * v + y) (or-shifted h 8 b byte) (or-zero-r (w % v))
 
-    joined-is-with : joins v (18446744073709551615 - 255 * v) b w ≡ w % v + v * (b + 256 * h)
+    joined-is-with : joins v (others v) b w ≡ w % v + v * (b + 256 * h)
     joined-is-with =
         let s : (h * 256 + b) * v ≡ v * (b + 256 * h) = mul-comm (h * 256 + b) v ∙ ap (λ (x : ℕ). v * x) (omega arith) in
         ap (λ (x : ℕ). bitOr x (b * v)) staying ∙ joined ∙ omega arith
 
-pub joins-with-byte : (p b w : ℕ) → p < 8 → b < 256 → w < 2 ^ 64 → joins (256 ^ p) (18446744073709551615 - 255 * 256 ^ p) b w ≡ withByte 8 p b w
+pub joins-with-byte : (p b w : ℕ) → p < 8 → b < 256 → w < 2 ^ 64 → joins (256 ^ p) (others (256 ^ p)) b w ≡ withByte 8 p b w
 joins-with-byte p b w small byte word =
-    subst (λ (u : ℕ). joins u (18446744073709551615 - 255 * u) b w ≡ w % u + u * (b + 256 * (w / u / 256))) (sym (bytes-power p)) (joined-is-with p small b w byte word)
+    subst (λ (u : ℕ). joins u (others u) b w ≡ w % u + u * (b + 256 * (w / u / 256))) (sym (bytes-power p)) (joined-is-with p small b w byte word)
     ∙ sym (with-byte-there 8 p b w small)

@@ -1,27 +1,31 @@
-// The pass through one plane: most of it four bytes at a time, the last few one by one.
+// The pass through one plane: most of it eight bytes at a time, the last few one by one.
 ghost use mathlib.Core.Path.{_≡_};
 ghost use Prim.Native.Nat.{ℕ, _+_, _*_, _^_, _<_, _≤_};
 ghost use lib.ListN.{length, take};
 ghost use Rattle.planes.specs.Plane.{joinedBy, placed};
 ghost use Rattle.planes.specs.Join.{joins};
 use crate::join::join_at;
-use crate::join::join_four;
+use crate::join::join_eight;
 use crate::join::wide;
 
-// All bytes of the plane but the last few, four at a time: four are read before a word is stored, so the compiler joins two words at once. Called with
+// All bytes of the plane but the last few, eight at a time: eight are read before a word is stored, so the compiler joins two words at once. Called with
 // the unit a literal. How many bytes are placed.
-fn place_fours(unit: u64, keep: u64, plane: &[u8], out: &mut [u64]) -> usize
+fn place_eights(unit: u64, keep: u64, plane: &[u8], out: &mut [u64]) -> usize
     requires { ⌜ (256 * unit ≤ 2 ^ 64) × (length (now plane) ≤ length (now out)) ⌝ }
     ensures { λ r. ⌜ (r ≤ length (now (plane .entry))) × (now (out .exit) ≡ joinedBy (joins unit keep) (take r (now (plane .entry))) (now (out .entry))) ⌝ }
 {
     let mut i = 0;
-    while 3 < plane.len() - i {
+    while 7 < plane.len() - i {
         let a = wide(plane[i]);
         let b = wide(plane[i + 1]);
         let c = wide(plane[i + 2]);
         let d = wide(plane[i + 3]);
-        join_four(unit, keep, a, b, c, d, i, out);
-        i += 4;
+        let e = wide(plane[i + 4]);
+        let f = wide(plane[i + 5]);
+        let g = wide(plane[i + 6]);
+        let h = wide(plane[i + 7]);
+        join_eight(unit, keep, a, b, c, d, e, f, g, h, i, out);
+        i += 8;
     }
     i
 }
@@ -44,21 +48,21 @@ fn place_most(p: usize, keep: u64, plane: &[u8], out: &mut [u64]) -> usize
     ensures { λ r. ⌜ (r ≤ length (now (plane .entry))) × (now (out .exit) ≡ joinedBy (joins (256 ^ p) keep) (take r (now (plane .entry))) (now (out .entry))) ⌝ }
 {
     if p == 0 {
-        place_fours(1, keep, plane, out)
+        place_eights(1, keep, plane, out)
     } else if p == 1 {
-        place_fours(256, keep, plane, out)
+        place_eights(256, keep, plane, out)
     } else if p == 2 {
-        place_fours(65536, keep, plane, out)
+        place_eights(65536, keep, plane, out)
     } else if p == 3 {
-        place_fours(16777216, keep, plane, out)
+        place_eights(16777216, keep, plane, out)
     } else if p == 4 {
-        place_fours(4294967296, keep, plane, out)
+        place_eights(4294967296, keep, plane, out)
     } else if p == 5 {
-        place_fours(1099511627776, keep, plane, out)
+        place_eights(1099511627776, keep, plane, out)
     } else if p == 6 {
-        place_fours(281474976710656, keep, plane, out)
+        place_eights(281474976710656, keep, plane, out)
     } else {
-        place_fours(72057594037927936, keep, plane, out)
+        place_eights(72057594037927936, keep, plane, out)
     }
 }
 

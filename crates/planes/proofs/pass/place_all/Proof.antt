@@ -6,7 +6,7 @@ use native.Mathlib.Omega.{arith}
 use lib.ListN.{length, take, drop, length-drop}
 use denote.Ref.{now}
 use Rattle.planes.specs.Plane.{joinedBy, withByte}
-use Rattle.planes.specs.Join.{joins}
+use Rattle.planes.specs.Join.{others, joins}
 use Rattle.planes.proofs.Parts.{rest-of, put-rest}
 use Rattle.planes.proofs.Joined.{joined-rest, joined-same}
 use Rattle.planes.proofs.Words.{unit-is, unit-fits, joins-with-byte}
@@ -23,7 +23,7 @@ fits s = subst (λ (u : ℕ). 256 * u ≤ 2 ^ 64) (sym (unit-at s)) (unit-fits (
 
 -- how the code joins a byte to a word, by the unit
 abbrev joinBy : ℕ → ℕ → ℕ → ℕ
-joinBy u = joins u (18446744073709551615 - 255 * u)
+joinBy u = joins u (others u)
 
 mul-unit : tie.Need-mul-unit
 mul-unit c = search needs
@@ -82,7 +82,7 @@ returns c = let s = c .before .before .before .before .before .before .before .b
     let plane : List ℕ = now (a .plane) in
     let old : List ℕ = now (a .out) in
     let u : ℕ = 256 ^ a .p in
-    let first : mid ≡ joinedBy (joinBy u) (take d plane) old = m .ensures .1 ∙ ap (λ (v : ℕ). joinedBy (joins u (18446744073709551615 - 255 * v)) (take d plane) old) (unit-at s) in
+    let first : mid ≡ joinedBy (joinBy u) (take d plane) old = m .ensures .1 ∙ ap (λ (v : ℕ). joinedBy (joins u (others v)) (take d plane) old) (unit-at s) in
     put-rest d mid _
     ∙ ap (λ (l : List ℕ). take d mid ++ l)
     (c .before .before .place-each .ensures

@@ -25,71 +25,71 @@ seven p h l = omega arith
 past : (p q : ℕ) → q ≤ p → (p ≡ q → ⊥) → suc q ≤ p
 past p q h n = omega arith
 
-place-fours-requires : tie.Need-place-fours-requires
-place-fours-requires c κs = search needs
+place-eights-requires : tie.Need-place-eights-requires
+place-eights-requires c κs = search needs
 
-place-fours-requires-2 : tie.Need-place-fours-requires-2
-place-fours-requires-2 c κs = search needs
+place-eights-requires-2 : tie.Need-place-eights-requires-2
+place-eights-requires-2 c κs = search needs
 
-place-fours-requires-3 : tie.Need-place-fours-requires-3
-place-fours-requires-3 c κs = search needs
+place-eights-requires-3 : tie.Need-place-eights-requires-3
+place-eights-requires-3 c κs = search needs
 
-place-fours-requires-4 : tie.Need-place-fours-requires-4
-place-fours-requires-4 c κs = search needs
+place-eights-requires-4 : tie.Need-place-eights-requires-4
+place-eights-requires-4 c κs = search needs
 
-place-fours-requires-5 : tie.Need-place-fours-requires-5
-place-fours-requires-5 c κs = search needs
+place-eights-requires-5 : tie.Need-place-eights-requires-5
+place-eights-requires-5 c κs = search needs
 
-place-fours-requires-6 : tie.Need-place-fours-requires-6
-place-fours-requires-6 c κs = search needs
+place-eights-requires-6 : tie.Need-place-eights-requires-6
+place-eights-requires-6 c κs = search needs
 
-place-fours-requires-7 : tie.Need-place-fours-requires-7
-place-fours-requires-7 c κs = search needs
+place-eights-requires-7 : tie.Need-place-eights-requires-7
+place-eights-requires-7 c κs = search needs
 
-place-fours-requires-8 : tie.Need-place-fours-requires-8
-place-fours-requires-8 c κs = search needs
+place-eights-requires-8 : tie.Need-place-eights-requires-8
+place-eights-requires-8 c κs = search needs
 
 same-length : tie.Need-same-length
 same-length c = search needs
 
 returns : tie.Need-returns
-returns c = branch (c .before .before .before .before .before .before .before) 0 (c .before .before .place-fours .result) _ (c .before .before .before .before .if1 .taken) (c .before .before .place-fours .ensures)
+returns c = branch (c .before .before .before .before .before .before .before) 0 (c .before .before .place-eights .result) _ (c .before .before .before .before .if1 .taken) (c .before .before .place-eights .ensures)
 
 same-length-2 : tie.Need-same-length-2
 same-length-2 c = search needs
 
 returns-2 : tie.Need-returns-2
-returns-2 c = branch (c .before .before .before .before .before .before .before .before) 1 (c .before .before .place-fours2 .result) _ (c .before .before .before .before .if2 .taken) (c .before .before .place-fours2 .ensures)
+returns-2 c = branch (c .before .before .before .before .before .before .before .before) 1 (c .before .before .place-eights2 .result) _ (c .before .before .before .before .if2 .taken) (c .before .before .place-eights2 .ensures)
 
 same-length-3 : tie.Need-same-length-3
 same-length-3 c = search needs
 
 returns-3 : tie.Need-returns-3
-returns-3 c = branch (c .before .before .before .before .before .before .before .before .before) 2 (c .before .before .place-fours3 .result) _ (c .before .before .before .before .if3 .taken) (c .before .before .place-fours3 .ensures)
+returns-3 c = branch (c .before .before .before .before .before .before .before .before .before) 2 (c .before .before .place-eights3 .result) _ (c .before .before .before .before .if3 .taken) (c .before .before .place-eights3 .ensures)
 
 same-length-4 : tie.Need-same-length-4
 same-length-4 c = search needs
 
 returns-4 : tie.Need-returns-4
-returns-4 c = branch (c .before .before .before .before .before .before .before .before .before .before) 3 (c .before .before .place-fours4 .result) _ (c .before .before .before .before .if4 .taken) (c .before .before .place-fours4 .ensures)
+returns-4 c = branch (c .before .before .before .before .before .before .before .before .before .before) 3 (c .before .before .place-eights4 .result) _ (c .before .before .before .before .if4 .taken) (c .before .before .place-eights4 .ensures)
 
 same-length-5 : tie.Need-same-length-5
 same-length-5 c = search needs
 
 returns-5 : tie.Need-returns-5
-returns-5 c = branch (c .before .before .before .before .before .before .before .before .before .before .before) 4 (c .before .before .place-fours5 .result) _ (c .before .before .before .before .if5 .taken) (c .before .before .place-fours5 .ensures)
+returns-5 c = branch (c .before .before .before .before .before .before .before .before .before .before .before) 4 (c .before .before .place-eights5 .result) _ (c .before .before .before .before .if5 .taken) (c .before .before .place-eights5 .ensures)
 
 same-length-6 : tie.Need-same-length-6
 same-length-6 c = search needs
 
 returns-6 : tie.Need-returns-6
-returns-6 c = branch (c .before .before .before .before .before .before .before .before .before .before .before .before) 5 (c .before .before .place-fours6 .result) _ (c .before .before .before .before .if6 .taken) (c .before .before .place-fours6 .ensures)
+returns-6 c = branch (c .before .before .before .before .before .before .before .before .before .before .before .before) 5 (c .before .before .place-eights6 .result) _ (c .before .before .before .before .if6 .taken) (c .before .before .place-eights6 .ensures)
 
 same-length-7 : tie.Need-same-length-7
 same-length-7 c = search needs
 
 returns-7 : tie.Need-returns-7
-returns-7 c = branch (c .before .before .before .before .before .before .before .before .before .before .before .before .before) 6 (c .before .before .place-fours7 .result) _ (c .before .before .before .before .if7 .taken) (c .before .before .place-fours7 .ensures)
+returns-7 c = branch (c .before .before .before .before .before .before .before .before .before .before .before .before .before) 6 (c .before .before .place-eights7 .result) _ (c .before .before .before .before .if7 .taken) (c .before .before .place-eights7 .ensures)
 
 same-length-8 : tie.Need-same-length-8
 same-length-8 c = search needs
@@ -99,20 +99,20 @@ returns-8 c = let s = c .before .before .before .before .before .before .before 
     let p : ℕ = s .args .p in
     let least : 7 ≤ p = past p 6 (past p 5 (past p 4 (past p 3 (past p 2 (past p 1 (past p 0 (omega arith) (c .before .before .before .before .before .before .before .before .before .before .if1 .left)) (c .before .before .before .before .before .before .before .before .before .if2 .left)) (c .before .before .before .before .before .before .before .before .if3 .left)) (c .before .before .before .before .before .before .before .if4 .left)) (c .before .before .before .before .before .before .if5 .left)) (c .before .before .before .before .before .if6 .left)) (c .before .before .before .before .if7 .left) in
     let most : p < 8 = s .pre .0 in
-    branch s 7 (c .before .before .place-fours8 .result) _ (seven p least most) (c .before .before .place-fours8 .ensures)
+    branch s 7 (c .before .before .place-eights8 .result) _ (seven p least most) (c .before .before .place-eights8 .ensures)
 
 pub place-most-spec : {M : Type 1} → statement M
 place-most-spec =
     tie.close
     (tie.spec
-    place-fours-requires
-    place-fours-requires-2
-    place-fours-requires-3
-    place-fours-requires-4
-    place-fours-requires-5
-    place-fours-requires-6
-    place-fours-requires-7
-    place-fours-requires-8
+    place-eights-requires
+    place-eights-requires-2
+    place-eights-requires-3
+    place-eights-requires-4
+    place-eights-requires-5
+    place-eights-requires-6
+    place-eights-requires-7
+    place-eights-requires-8
     same-length
     returns
     same-length-2
