@@ -1,13 +1,13 @@
 -- Plane after plane placed into words: each makes the numbers a byte longer.
 -- Assumes nothing.
-use mathlib.Core.Path.{_≡_, refl, sym, ap, ap₂, _∙_, subst}
+use mathlib.Core.Path.{_≡_, refl, sym, ap, ap₂, _∙_}
 use mathlib.Core.Bool.{Bool, true, false}
 use mathlib.Core.List.{List, _++_}
 use Prim.Native.Nat.{ℕ, zero, suc, _+_, _*_, _-_, _/_, _^_, _<_, _≤_}
-use native.Mathlib.Nat.{mul-add, mul-assoc, suc-mul, pow-suc, div-eq-of-lt, div-div-eq-div-mul, add-zero, le-trans}
+use native.Mathlib.Nat.{mul-add, mul-assoc, suc-mul, pow-suc, div-eq-of-lt, div-div-eq-div-mul}
 use native.Mathlib.Numerals.{add-one}
 use native.Mathlib.Omega.{arith}
-use lib.Dec.{ltb, lit<}
+use lib.Dec.{ltb}
 use lib.ListN.{length, take, drop, getD, replicate, length-append, length-drop, length-replicate, getD-replicate, List·getD-append}
 use lib.Seq.{length-take-le, getD-take, getD-drop, getD-append-add, ext-getD}
 use borrow.Author.Tests.{ltb-false}

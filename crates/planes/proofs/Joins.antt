@@ -5,7 +5,7 @@ use mathlib.Core.List.{List}
 use Prim.Native.Nat.{ℕ, _+_, _<_, _≤_}
 use native.Mathlib.Numerals.{add-one}
 use native.Mathlib.Omega.{arith}
-use lib.ListN.{length, set, take, getD, length-set}
+use lib.ListN.{length, take, getD, length-set}
 use Rattle.planes.specs.Plane.{joinedBy}
 use Rattle.planes.specs.Join.{joins, joinAt, joinTwo, joinFour, joinEight}
 use Rattle.planes.proofs.Joined.{joined-more}

@@ -1,16 +1,15 @@
 -- A number with one byte replaced: that byte is the new one, every other byte as before. So a plane that is placed gives each number its byte.
 -- Assumes nothing.
-use mathlib.Core.Path.{_≡_, refl, sym, ap, ap₂, _∙_, subst}
+use mathlib.Core.Path.{_≡_, refl, sym, ap, _∙_, subst}
 use mathlib.Core.Bool.{Bool, true, false}
-use Prim.Native.Nat.{ℕ, suc, _+_, _*_, _-_, _/_, _%_, _^_, _<_, _≤_}
+use Prim.Native.Nat.{ℕ, suc, _+_, _*_, _-_, _/_, _%_, _^_, _<_}
 use native.Mathlib.Nat.{mod-lt, mod-add-div, add-mul-div-left, div-eq-of-lt, div-div-eq-div-mul, mul-assoc, mul-comm, pow-suc, zero-add}
 use native.Mathlib.Omega.{arith}
 use lib.Dec.{ltb}
 use lib.Pow.{pow-add}
 use lib.ListN.{getD}
-use mathlib.Core.List.{List}
 use borrow.Author.Tests.{ltb-true, ltb-false}
-use Rattle.planes.specs.Plane.{byteAt, withByte, placed, PlacesOnePlane}
+use Rattle.planes.specs.Plane.{byteAt, withByte, PlacesOnePlane}
 use Rattle.planes.proofs.Words.{power-positive, with-byte-there}
 use Rattle.planes.proofs.Joined.{length-joined, getD-joined, getD-behind}
 

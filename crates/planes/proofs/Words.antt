@@ -4,11 +4,9 @@ use mathlib.Core.Path.{_≡_, refl, sym, ap, ap₂, _∙_, subst}
 use Prim.Native.Nat.{ℕ, zero, suc, _+_, _*_, _-_, _/_, _%_, _^_, _<_, _≤_}
 use native.Mathlib.Nat.{pow-suc, mul-comm, mul-assoc, add-mul, one-mul, add-zero, mod-lt, mod-mod, mod-eq-of-lt, div-add-mod', div-div-eq-div-mul, div-lt-iff-lt-mul, add-mul-mod-self-left, add-mul-div-left, div-eq-of-lt, zero-add, mul-le-mul-right}
 use native.Mathlib.Omega.{arith}
-use lib.Dec.{ltb}
 use lib.Bits.{bitAnd, bitOr, and-block, and-mask, and-high, or-block, or-shifted, or-zero-r}
 use lib.Pow.{pow-add, pow-pos, pow-lt}
 use borrow.Author.Tests.{lt-ltb, le-ltb}
-use Rattle.numbers.specs.Choice.{pick}
 use Rattle.planes.specs.Plane.{withByte}
 use Rattle.planes.specs.Join.{others, joins}
 
