@@ -44,7 +44,7 @@ fn plain_out(page: &[u8], k: usize, n: usize, out: &mut [u64])
     }
 }
 
-// The numbers of a split page, plane after plane: each is gone through once, and its bytes are placed into words that were cleared before.
+// The numbers of a split page. What no plane replaces is cleared; then each plane is gone through once, and its bytes are placed.
 fn split_out(page: &[u8], k: usize, n: usize, out: &mut [u64])
     requires { ⌜ (k ≤ 8) × (n ≤ length (now out)) × (k * n ≤ length (now page)) ⌝ }
     ensures { λ _. ⌜ now (out .exit) ≡ over (unplanes k n (now (page .entry))) (now (out .entry)) ⌝ }

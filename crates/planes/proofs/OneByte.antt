@@ -10,8 +10,8 @@ use lib.Pow.{pow-add}
 use lib.ListN.{getD}
 use borrow.Author.Tests.{ltb-true, ltb-false}
 use Rattle.planes.specs.Plane.{byteAt, withByte, PlacesOnePlane}
-use Rattle.planes.proofs.Words.{power-positive, with-byte-there}
-use Rattle.planes.proofs.Joined.{length-joined, getD-joined, getD-behind}
+use Rattle.planes.proofs.Words.{power-positive, with-byte-there, with-byte-missing}
+use Rattle.planes.proofs.Joined.{length-joined, getD-joined, getD-behind, joined-none}
 
 -- 256 to the power of a higher place
 higher-power : (q d : ℕ) → 256 ^ (q + suc d) ≡ 256 ^ q * (256 * 256 ^ d)
@@ -87,9 +87,9 @@ module _ (k p b x : ℕ) (there : p < k) (small : b < 256) where
 
 pub places-one-plane : PlacesOnePlane
 unfolding PlacesOnePlane
-places-one-plane k p plane xs there octets = (
+places-one-plane k p plane xs octets = (
   length-joined (withByte k p) plane xs,
-  λ i h l.
+  λ i there h l.
       let e = getD-joined (withByte k p) plane xs i h l in
       let b : ℕ = getD plane i 0 in
       let x : ℕ = getD xs i 0 in (
@@ -97,4 +97,5 @@ places-one-plane k p plane xs there octets = (
         λ q n. ap (λ (y : ℕ). byteAt y q) e ∙ byte-other k p b x there (octets i) q n,
       ),
   getD-behind (withByte k p) plane xs,
+  λ h. joined-none (withByte k p) plane xs (λ b x. with-byte-missing k p b x h),
 )

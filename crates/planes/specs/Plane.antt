@@ -24,15 +24,17 @@ joinedBy f (b ∷ bs) (x ∷ xs) = f b x ∷ joinedBy f bs xs
 abbrev pub placed : ℕ → ℕ → List ℕ → List ℕ → List ℕ
 placed k p = joinedBy (withByte k p)
 
--- what that means: each number that the plane has a byte for then has that byte as byte p, and its other bytes as before; all others are as they were
+-- what that means: each number that the plane has a byte for then has that byte as byte p, and its other bytes as before; the numbers behind are as they
+-- were; and all are where they have no byte p
 unfoldable pub PlacesOnePlane : Type 0
 PlacesOnePlane =
-    (k p : ℕ) (plane xs : List ℕ) → p < k → ((i : ℕ) → getD plane i 0 < 256)
+    (k p : ℕ) (plane xs : List ℕ) → ((i : ℕ) → getD plane i 0 < 256)
     → (length (placed k p plane xs) ≡ length xs)
-    × ((i : ℕ) → i < length plane → i < length xs
+    × ((i : ℕ) → p < k → i < length plane → i < length xs
     → (byteAt (getD (placed k p plane xs) i 0) p ≡ getD plane i 0)
     × ((q : ℕ) → (q ≡ p → ⊥) → byteAt (getD (placed k p plane xs) i 0) q ≡ byteAt (getD xs i 0) q))
     × ((i : ℕ) → length plane ≤ i → getD (placed k p plane xs) i 0 ≡ getD xs i 0)
+    × (k ≤ p → placed k p plane xs ≡ xs)
 
 -- words that get k bytes each: cleared, unless these are all their bytes
 unfoldable pub cleared : ℕ → List ℕ → List ℕ

@@ -66,7 +66,7 @@ fn place_most(p: usize, keep: u64, plane: &[u8], out: &mut [u64]) -> usize
     }
 }
 
-// A plane that has no more bytes than there are words.
+// A plane that has no more bytes than there are words: most of it, and then the rest.
 pub fn place_all(p: usize, plane: &[u8], out: &mut [u64])
     requires { ⌜ (p < 8) × (length (now plane) ≤ length (now out)) ⌝ }
     ensures { λ _. ⌜ now (out .exit) ≡ placed 8 p (now (plane .entry)) (now (out .entry)) ⌝ }
