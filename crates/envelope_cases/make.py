@@ -381,7 +381,7 @@ def decode(name, column_type, elements, content, words, start, checksum, line):
 
 def decoded(name, column_type, content, values, words=None, start=0, checksum=0):
     lent = start + len(values) if words is None else words
-    line = f" accepted {len(values)}" + table(lent, [NINES] * start + list(values), NINES)
+    line = " accepted" + table(lent, [NINES] * start + list(values), NINES)
     decode(name, column_type, len(values), content, lent, start, checksum, line)
 
 

@@ -1,4 +1,5 @@
-pub mod Xor
-pub mod Register
-pub mod CrcTable
+pub mod Fold
+pub mod Spread
+pub mod Turn
+pub mod Multiples
 pub mod CrcVector

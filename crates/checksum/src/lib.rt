@@ -1,18 +1,24 @@
 // The CRC-32 of an envelope and of a page.
-mod by_bytes;
-mod by_half_bytes;
-mod byte_table;
+mod first;
+mod wide;
 
+use wide::Wide;
 ghost use mathlib.Core.Path.{_≡_};
 ghost use Rattle.checksum.specs.Crc.{crc32};
 
-// The CRC-32 of some bytes. Where they are many, a call sets up a table of 16 KiB on the stack.
+// The CRC-32 of some bytes: the bytes before the last whole words one at a time, then the words.
 pub fn crc32(bytes: &[u8]) -> u32
     ensures { λ r. ⌜ r ≡ crc32 (now (bytes .entry)) ⌝ }
 {
-    if bytes.len() < 320 {
-        return 0xFFFFFFFF - by_half_bytes::register(bytes);
-    }
-    let table = byte_table::table();
-    0xFFFFFFFF - by_bytes::all(&table, bytes)
+    let words = bytes.len() / 8;
+    let c = first::first(bytes, bytes.len() - 8 * words);
+    let start = Wide {
+        a: c as u64,
+        b: 0,
+        c: 0,
+        d: 0,
+        e: 0,
+    };
+    let end = wide::all(bytes, words, start);
+    0xFFFFFFFF - (end.a as u32)
 }

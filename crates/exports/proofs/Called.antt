@@ -1,32 +1,33 @@
 -- What an exported call leaves, from what the call below it left.
 use Prim.Native.Nat.{ℕ, _≤_, _<_}
-use mathlib.Core.Path.{_≡_, refl, ap, sym, _∙_}
+use mathlib.Core.Path.{_≡_, refl, ap, ap₂, sym, _∙_}
 use mathlib.Core.List.{List, [], _∷_}
-use mathlib.Core.Bool.{Bool, true, false}
+use mathlib.Core.Bool.{Bool, false}
 use native.Mathlib.Omega.{arith}
 use lib.ListN.{length, set}
 use borrow.Author.Tests.{le-leb, lt-leb}
-use Rattle.numbers.specs.Choice.{both}
 use Rattle.numbers.specs.Rows.{put, over}
 use Rattle.wire.specs.Reading.{Step}
-use Rattle.wire.proofs.Loops.{over-put}
+use Rattle.rows.proofs.TableLaws.{over-put}
 use Rattle.column_type.specs.Types.{known}
 use Rattle.header.specs.Header.{Header}
 use Rattle.header.specs.Beside.{Beside}
-use Rattle.header.specs.Tables.{Answered}
+use Rattle.outcome.specs.Outcome.{Outcome, codeOf}
+use Rattle.header.specs.Tables.{Answered, textsOf, outcomeOf as headerOutcome}
 use Rattle.header.specs.declared.HeaderAnswer.{HeaderAnswer}
 use Rattle.header.specs.declared.HeaderAnswer.the-variants.{Accepted as HeaderAccepted, Refused as HeaderRefused}
 use Rattle.footer.specs.Footer.{Footer}
-use Rattle.footer.specs.Tables.{Answered as AnsweredFooter}
+use Rattle.footer.specs.Tables.{Answered as AnsweredFooter, outcomeOf as footerOutcome}
 use Rattle.footer.specs.declared.FooterAnswer.{FooterAnswer}
 use Rattle.footer.specs.declared.FooterAnswer.the-variants.{Accepted as FooterAccepted, Refused as FooterRefused}
-use Rattle.page_list.specs.Tables.{Answered as AnsweredPageList}
-use Rattle.page_list.specs.declared.PageRow.{PageRow}
+use Rattle.page_list.specs.Tables.{Answered as AnsweredPageList, outcomeOf as pageListOutcome}
+use Rattle.rows.specs.declared.PageRow.{PageRow}
 use Rattle.page_list.specs.declared.PageListAnswer.{PageListAnswer}
 use Rattle.page_list.specs.declared.PageListAnswer.the-variants.{Accepted as PageListAccepted, Refused as PageListRefused}
-use Rattle.page.specs.Page.{Outcome, readable, refuse, decodeOutcome, decoded, encodeOutcome, encoded}
+use Rattle.page_rules.specs.Page.{readable, refuse, decodeOutcome, decoded, encodeOutcome, encoded}
 use Rattle.exports.specs.Results.{given, shortResult, HandsOver}
-use Rattle.exports.specs.Calls.{headerCode, headerResult, HeaderCall, footerCode, footerResult, FooterCall, pageListCode, pageListResult, PageListCall, pageCode, asks, EncodeCall}
+use Rattle.answers.specs.Results.{headerResult}
+use Rattle.exports.specs.Calls.{HeaderCall, FooterCall, PageListCall, asks, EncodeCall}
 
 -- a result with room for n words, and one without
 
@@ -51,7 +52,7 @@ hands-over n {words = words} {w₀ = w₀} fits long is stored =
 
 -- Headers.
 
-header-words : (r : HeaderAnswer) → length (headerResult r) ≡ 7
+header-words : (r : HeaderAnswer) → length (headerResult (textsOf r) (headerOutcome r)) ≡ 7
 header-words (HeaderAccepted t) = refl
 header-words (HeaderRefused n) = refl
 
@@ -65,11 +66,11 @@ header-short x f c a w short =
     }
 
 pub header-called : {x : Step Header} {f₀ f c₀ c a₀ a w₀ w words : List ℕ} {r : HeaderAnswer} {code : ℕ} → 7 ≤ length w₀ → Answered x f₀ f c₀ c a₀ a r
-    → words ≡ headerResult r → w ≡ put w₀ 0 words → code ≡ headerCode r → HeaderCall x f₀ f c₀ c a₀ a w₀ w code
+    → words ≡ headerResult (textsOf r) (headerOutcome r) → w ≡ put w₀ 0 words → code ≡ codeOf (headerOutcome r) → HeaderCall x f₀ f c₀ c a₀ a w₀ w code
 header-called {w₀ = w₀} {r = r} fits left are stored is =
-    let answer = left .answers in
+    let result = ap₂ headerResult (left .reportsTexts) (left .reports) in
     record {
-      handsOver = hands-over 7 fits (ap (λ (q : HeaderAnswer). length (headerResult q)) (sym answer) ∙ header-words r) (is ∙ ap headerCode answer) (stored ∙ ap (put w₀ 0) (are ∙ ap headerResult answer));
+      handsOver = hands-over 7 fits (ap length (sym result) ∙ header-words r) (is ∙ ap codeOf (left .reports)) (stored ∙ ap (put w₀ 0) (are ∙ result));
       fieldsAre = given-room 7 w₀ _ _ fits (left .fieldsAre);
       columnsAre = given-room 7 w₀ _ _ fits (left .columnsAre);
       aliasesAre = given-room 7 w₀ _ _ fits (left .aliasesAre);
@@ -77,7 +78,7 @@ header-called {w₀ = w₀} {r = r} fits left are stored is =
 
 -- Footers.
 
-footer-words : (r : FooterAnswer) → length (footerResult r) ≡ 2
+footer-words : (r : FooterAnswer) → length (footerOutcome r .counts) ≡ 2
 footer-words (FooterAccepted clusters metadata) = refl
 footer-words (FooterRefused envelope number) = refl
 
@@ -86,18 +87,18 @@ footer-short x c m w short =
     record { handsOver = hands-nothing 2 _ _ w short; clustersAre = given-short 2 w _ _ short; metadataAre = given-short 2 w _ _ short }
 
 pub footer-called : {x : Beside Footer} {c₀ c m₀ m w₀ w words : List ℕ} {r : FooterAnswer} {code : ℕ} → 2 ≤ length w₀ → AnsweredFooter x c₀ c m₀ m r
-    → words ≡ footerResult r → w ≡ put w₀ 0 words → code ≡ footerCode r → FooterCall x c₀ c m₀ m w₀ w code
+    → words ≡ footerOutcome r .counts → w ≡ put w₀ 0 words → code ≡ codeOf (footerOutcome r) → FooterCall x c₀ c m₀ m w₀ w code
 footer-called {w₀ = w₀} {r = r} fits left are stored is =
-    let answer = left .answers in
+    let counts = ap (λ (o : Outcome). o .counts) (left .reports) in
     record {
-      handsOver = hands-over 2 fits (ap (λ (q : FooterAnswer). length (footerResult q)) (sym answer) ∙ footer-words r) (is ∙ ap footerCode answer) (stored ∙ ap (put w₀ 0) (are ∙ ap footerResult answer));
+      handsOver = hands-over 2 fits (ap length (sym counts) ∙ footer-words r) (is ∙ ap codeOf (left .reports)) (stored ∙ ap (put w₀ 0) (are ∙ counts));
       clustersAre = given-room 2 w₀ _ _ fits (left .clustersAre);
       metadataAre = given-room 2 w₀ _ _ fits (left .metadataAre);
     }
 
 -- Page lists.
 
-page-list-words : (r : PageListAnswer) → length (pageListResult r) ≡ 1
+page-list-words : (r : PageListAnswer) → length (pageListOutcome r .counts) ≡ 1
 page-list-words (PageListAccepted pages) = refl
 page-list-words (PageListRefused envelope number) = refl
 
@@ -105,11 +106,11 @@ pub page-list-short : (x : Beside (List (List PageRow))) (p w : List ℕ) → le
 page-list-short x p w short = record { handsOver = hands-nothing 1 _ _ w short; pagesAre = given-short 1 w _ _ short }
 
 pub page-list-called : {x : Beside (List (List PageRow))} {p₀ p w₀ w words : List ℕ} {r : PageListAnswer} {code : ℕ} → 1 ≤ length w₀ → AnsweredPageList x p₀ p r
-    → words ≡ pageListResult r → w ≡ put w₀ 0 words → code ≡ pageListCode r → PageListCall x p₀ p w₀ w code
+    → words ≡ pageListOutcome r .counts → w ≡ put w₀ 0 words → code ≡ codeOf (pageListOutcome r) → PageListCall x p₀ p w₀ w code
 page-list-called {w₀ = w₀} {r = r} fits left are stored is =
-    let answer = left .answers in
+    let counts = ap (λ (o : Outcome). o .counts) (left .reports) in
     record {
-      handsOver = hands-over 1 fits (ap (λ (q : PageListAnswer). length (pageListResult q)) (sym answer) ∙ page-list-words r) (is ∙ ap pageListCode answer) (stored ∙ ap (put w₀ 0) (are ∙ ap pageListResult answer));
+      handsOver = hands-over 1 fits (ap length (sym counts) ∙ page-list-words r) (is ∙ ap codeOf (left .reports)) (stored ∙ ap (put w₀ 0) (are ∙ counts));
       pagesAre = given-room 1 w₀ _ _ fits (left .pagesAre);
     }
 
@@ -149,12 +150,12 @@ pub encode-short : (t n checksum : ℕ) (words : List ℕ) (start : ℕ) (p w : 
 encode-short t n checksum words start p w short = record { handsOver = hands-nothing 1 _ _ w short; pageIs = given-short 1 w _ _ short }
 
 pub encode-called : {t n checksum : ℕ} {words : List ℕ} {start : ℕ} {p₀ p w : List ℕ} {o : Outcome} {count code : ℕ} → 1 ≤ length w
-    → o ≡ encodeOutcome t n (asks checksum) words start (length p₀) → p ≡ encoded t n (asks checksum) words start p₀ → count ≡ o .count → code ≡ pageCode o
+    → o ≡ encodeOutcome t n (asks checksum) words start (length p₀) → p ≡ encoded t n (asks checksum) words start p₀ → (count ∷ []) ≡ o .counts → code ≡ codeOf o
     → EncodeCall t n checksum words start p₀ p w (set w 0 count) code
 encode-called {p₀ = p₀} {w = w} fits outcome page counts is =
-    let count = counts ∙ ap (λ (q : Outcome). q .count) outcome in
+    let count = counts ∙ ap (λ (q : Outcome). q .counts) outcome in
     record {
-      handsOver = rw (← count) (hands-word fits (is ∙ ap pageCode outcome));
+      handsOver = rw (← count) (hands-word fits (is ∙ ap codeOf outcome));
       pageIs = given-room 1 w _ _ fits page;
     }
 

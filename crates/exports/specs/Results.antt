@@ -1,15 +1,11 @@
 -- How an exported call hands over an answer: in one number, and in the words of a lent result.
-use Prim.Native.Nat.{ℕ, _+_, _*_}
+use Prim.Native.Nat.{ℕ}
 use mathlib.Core.List.{List}
 use mathlib.Core.Path.{_≡_}
 use lib.ListN.{length}
 use lib.Dec.{leb}
 use Rattle.numbers.specs.Choice.{pick}
 use Rattle.numbers.specs.Rows.{over}
-
--- a refusal as one number; 0 stands for acceptance
-abbrev pub refusalCode : ℕ → ℕ → ℕ
-refusalCode envelope number = 256 * envelope + number
 
 -- what a call answers whose result has too few words: nothing is read, and nothing is written
 abbrev pub shortResult : ℕ

@@ -1,14 +1,13 @@
 // The calls of the library under C names: include/rntuple_check.h declares them. A slice is passed as a pointer and a length.
-mod answers;
-
 ghost use mathlib.Core.Path.{_≡_};
 ghost use lib.ListN.{length};
 ghost use Rattle.checksum.specs.Crc.{crc32};
 ghost use Rattle.header.specs.Tables.{headerOf};
 ghost use Rattle.footer.specs.Tables.{footerBeside};
 ghost use Rattle.page_list.specs.Tables.{pageListBeside};
-ghost use Rattle.page.specs.Page.{decodeOutcome, decoded};
-ghost use Rattle.exports.specs.Calls.{HeaderCall, FooterCall, PageListCall, EncodeCall, pageCode, asks};
+ghost use Rattle.page_rules.specs.Page.{decodeOutcome, decoded};
+ghost use Rattle.outcome.specs.Outcome.{codeOf};
+ghost use Rattle.exports.specs.Calls.{HeaderCall, FooterCall, PageListCall, EncodeCall, asks};
 
 #[no_mangle]
 pub extern "C" fn rnt_crc32(bytes: &[u8]) -> u32
@@ -30,9 +29,9 @@ pub extern "C" fn rnt_read_header(
     if result.len() < 7 {
         return 4294967295;
     }
-    let answer = header::read_header(envelope, fields, columns, aliases);
+    let answer = header_reader::read_header(envelope, fields, columns, aliases);
     let words = answers::header_result(answer);
-    wire::put_words(result, 0, &words);
+    rows::put_words(result, 0, &words);
     answers::header_code(answer)
 }
 
@@ -52,7 +51,7 @@ pub extern "C" fn rnt_read_footer(
     }
     let answer = footer::read_footer(header, footer, file_length, clusters, metadata);
     let words = answers::footer_result(answer);
-    wire::put_words(result, 0, &words);
+    rows::put_words(result, 0, &words);
     answers::footer_code(answer)
 }
 
@@ -72,7 +71,7 @@ pub extern "C" fn rnt_read_page_list(
     }
     let answer = page_list::read_page_list(header, page_list, entries, file_length, pages);
     let words = answers::page_list_result(answer);
-    wire::put_words(result, 0, &words);
+    rows::put_words(result, 0, &words);
     answers::page_list_code(answer)
 }
 
@@ -86,13 +85,13 @@ pub extern "C" fn rnt_decode_page(
     words: &mut [u64],
     start: u64,
 ) -> u32
-    ensures answers { λ r. ⌜ r ≡ pageCode (decodeOutcome «column_type» elements (asks checksum) (now (page .entry)) (length (now (words .entry))) start) ⌝ }
+    ensures answers { λ r. ⌜ r ≡ codeOf (decodeOutcome «column_type» elements (asks checksum) (now (page .entry)) (length (now (words .entry))) start) ⌝ }
     ensures leaves { λ _. ⌜ now (words .exit) ≡ decoded «column_type» elements (asks checksum) (now (page .entry)) (now (words .entry)) start ⌝ }
 {
     if 65535 < column_type {
         return 1047;
     }
-    let answer = page::decode_page(
+    let answer = page_decoding::decode_page(
         column_type as u16,
         elements as usize,
         checksum != 0,
@@ -122,7 +121,7 @@ pub extern "C" fn rnt_encode_page(
         result[0] = 0;
         return 1047;
     }
-    let answer = page::encode_page(
+    let answer = page_encoding::encode_page(
         column_type as u16,
         elements as usize,
         checksum != 0,

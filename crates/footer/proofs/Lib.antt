@@ -1,4 +1,5 @@
-pub mod ClusterLaws
+pub mod FillLaws
 pub mod OpeningLaws
 pub mod PayloadLaws
 pub mod ReadLaws
+pub mod Outcomes

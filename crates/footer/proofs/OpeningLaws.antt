@@ -8,11 +8,12 @@ use borrow.Author.Tests.{eqb-true}
 use lib.Dec.{eqb}
 use lib.ListN.{length}
 use Rattle.numbers.specs.Choice.{pick}
-use Rattle.wire.specs.declared.ListHead.{ListHead}
-use Rattle.wire.specs.Features.{features}
-use Rattle.wire.specs.Reading.{Step, found, refused, Rule, after, give, tested, counted, closedBy, inItem, items, listHead, listCount, listStop}
-use Rattle.wire.proofs.Laws.{count-zero, counted-closed}
-use Rattle.wire.proofs.Loops.{list-is}
+use Rattle.frames.specs.declared.ListHead.{ListHead}
+use Rattle.envelope.specs.Features.{features}
+use Rattle.wire.specs.Reading.{Step, found, refused, Rule, after, give, tested, counted, inItem}
+use Rattle.frames.specs.Frames.{closedBy, items, listHead, listCount, listStop}
+use Rattle.frames.proofs.Laws.{count-zero, counted-closed}
+use Rattle.frames.proofs.Loops.{list-is}
 use Rattle.footer.specs.Footer.{names, noItems, empty, afterOpening, opening}
 
 none : (n : ℕ) → noItems n ≡ 0 → n ≡ 0

@@ -1,15 +1,19 @@
 -- The payload: what a scan of it says, from what its parts read.
 use Prim.Native.Nat.{ℕ}
-use mathlib.Core.Path.{_≡_, sym}
+use mathlib.Core.Path.{_≡_, sym, ap, _∙_}
 use mathlib.Core.Bool.{Bool, true, false}
 use mathlib.Core.List.{List}
 use lib.ListN.{length}
 use Rattle.wire.specs.declared.Fault.{Fault}
 use Rattle.wire.specs.declared.Kind.the-variants.{Spare}
-use Rattle.wire.specs.Envelope.{whole}
-use Rattle.wire.specs.Reading.{found, refused, _>>=_, after, give, counted, rowsOf, fault, spare}
-use Rattle.wire.proofs.Laws.{counted-found, counted-refused}
-use Rattle.footer.specs.Footer.{payload, opening, clusterList, linkList}
+use Rattle.envelope.specs.Envelope.{whole}
+use Rattle.wire.specs.Reading.{Step, found, refused, _>>=_, after, give, counted, rowsOf, fault}
+use Rattle.frames.specs.Frames.{spare, closed}
+use Rattle.frames.proofs.Laws.{ended, spared}
+use Rattle.numbers.specs.Choice.{pick}
+use Rattle.wire.proofs.Laws.{never, counted-found, counted-refused}
+use Rattle.footer.specs.Footer.{payload, opening}
+use Rattle.clusters.specs.Clusters.{clusterList, linkList}
 use Rattle.footer.specs.Answers.{Scanned}
 use Rattle.footer.proofs.OpeningLaws.{opening-then}
 
@@ -42,13 +46,19 @@ module _ (checksum file : ℕ) (strict : Bool) (s : List ℕ) where
         payload-found : payload checksum file strict s 4 ≡ found (record { clusters = rowsOf (clusterList strict file s ca); metadata = rowsOf (linkList strict file s ma) }) p
         payload-found = rw (payload-is, o, the-clusters .0, the-metadata .0)
 
-        pub spare-bytes : spare strict p (length s) ≡ true → whole strict (payload checksum file strict) s 4 ≡ refused (fault 11 Spare p)
-        spare-bytes e = rw (payload-found, e)
+        pub spare-bytes : {f : Fault} → _≡_ {A = Step (Unit {0})} (refused f) (closed strict (length s) (found tt p)) → whole strict (payload checksum file strict) s 4 ≡ refused f
+        spare-bytes e = ap (closed strict (length s)) payload-found ∙ spared (λ f. f) strict p (length s) (record { clusters = rowsOf (clusterList strict file s ca); metadata = rowsOf (linkList strict file s ma) }) e
 
-        pub scanned : spare strict p (length s) ≡ false → Scanned checksum file strict s (record { «clusters_at» = ca; clusters = n; «metadata_at» = ma; metadata = m })
+        whole-end : {q : ℕ} (b : Bool) → found tt q ≡ pick {A = Step (Unit {0})} b (refused (fault 11 Spare p)) (found tt (length s)) → q ≡ length s
+        whole-end true g = never (sym g)
+        whole-end false g = cc
+
+        pub scanned : {q : ℕ} → _≡_ {A = Step (Unit {0})} (found tt q) (closed strict (length s) (found tt p)) → Scanned checksum file strict s (record { «clusters_at» = ca; clusters = n; «metadata_at» = ma; metadata = m })
         scanned e =
             record {
-              was = rw (payload-found, e);
+              was =
+                  ap (closed strict (length s)) payload-found ∙ ended (λ f. f) strict p (length s) (record { clusters = rowsOf (clusterList strict file s ca); metadata = rowsOf (linkList strict file s ma) }) e
+                  ∙ ap (found (record { clusters = rowsOf (clusterList strict file s ca); metadata = rowsOf (linkList strict file s ma) })) (whole-end (spare strict p (length s)) e);
               clustersRead = rw (the-clusters .0);
               metadataRead = rw (the-metadata .0);
               clustersCounted = the-clusters .1;

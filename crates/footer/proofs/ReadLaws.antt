@@ -1,34 +1,32 @@
 -- What the reading of a footer leaves, from what a scan of its payload says.
 use Prim.Native.Nat.{ℕ, _*_, _/_, _≤_}
-use mathlib.Core.Path.{_≡_, refl, _∙_}
+use mathlib.Core.Path.{_≡_, _∙_}
 use mathlib.Core.Bool.{Bool, true, false}
 use mathlib.Core.List.{List}
 use native.Mathlib.Omega.{arith}
 use borrow.Author.Tests.{leb-true}
 use lib.Dec.{leb}
 use lib.ListN.{length, take}
-use Rattle.numbers.specs.Choice.{both}
+use Rattle.numbers.proofs.Choice.{both-true}
 use Rattle.numbers.specs.Rows.{flat, over}
 use Rattle.wire.specs.declared.Fault.{Fault}
-use Rattle.wire.specs.Envelope.{checksumOf, opened, whole, versioned}
+use Rattle.envelope.specs.Envelope.{Versions, checksumOf, opened, whole, versioned}
 use Rattle.wire.specs.Reading.{found, refused, rowsOf}
 use Rattle.header.specs.Header.{Header}
 use Rattle.header.specs.Tables.{headerOf}
 use Rattle.header.specs.Beside.{Beside, refusal, inEnvelope}
-use Rattle.footer.specs.Footer.{Footer, payload, clusterList, linkList, footerOf}
-use Rattle.footer.specs.Tables.{linkWords, clusterWords, fitting, roomFor, answer, reported, written, footerBeside, Answered}
+use Rattle.footer.specs.Footer.{Footer, payload, footerOf}
+use Rattle.clusters.specs.Clusters.{clusterList, linkList}
+use Rattle.footer.specs.Tables.{fitting, roomFor, answer, written, footerBeside, Answered}
+use Rattle.rows.specs.Words.{clusterWidth, clusterWords, linkWidth, linkWords}
 use Rattle.footer.specs.Answers.{Scanned, scannedFooter}
 use Rattle.footer.specs.declared.FooterAnswer.{FooterAnswer}
 use Rattle.footer.specs.declared.FooterAnswer.the-variants.{Accepted, Refused}
 use Rattle.footer.specs.declared.lists.FooterScan.{FooterScan}
 
-pub answered-refused : {x : Beside Footer} {k n : ℕ} (C M : List ℕ) → x ≡ refusal k n → Answered x C C M M (Refused k n)
-unfolding answer reported written
+pub answered-refused : {x : Beside Footer} {k : ℕ} {f : Fault} (C M : List ℕ) → x ≡ refusal k f → Answered x C C M M (Refused k (f .number))
+unfolding answer written
 answered-refused C M e = record { answers = rw e; reports = rw e; clustersAre = rw e; metadataAre = rw e }
-
-both-true : (x y : Bool) → both x y ≡ true → (x ≡ true) × (y ≡ true)
-both-true true y e = (refl, e)
-both-true false y e = absurd (omega (arith, leb-true 1 0 e))
 
 -- a payload that a scan accepted, and lent tables C and M
 module _ {checksum file : ℕ} {strict : Bool} {s : List ℕ} {scan : FooterScan} (k : Scanned checksum file strict s scan) (C M : List ℕ) where
@@ -37,26 +35,26 @@ module _ {checksum file : ℕ} {strict : Bool} {s : List ℕ} {scan : FooterScan
 
   pub no-room : fitting (length C) (length M) (scan .clusters) (scan .metadata) ≡ false
       → Answered (inEnvelope 2 (whole strict (payload checksum file strict) s 4)) C C M M (Refused 2 20)
-  unfolding answer reported written
+  unfolding answer written
   no-room r =
       let z = room-is ∙ r in
       record { answers = rw (k .was, z); reports = rw (k .was, z); clustersAre = rw (k .was, z); metadataAre = rw (k .was, z) }
 
   module _ (r : fitting (length C) (length M) (scan .clusters) (scan .metadata) ≡ true) where
-    rooms : (leb (scan .clusters) (length C / 4) ≡ true) × (leb (scan .metadata) (length M / 2) ≡ true)
-    rooms = both-true (leb (scan .clusters) (length C / 4)) (leb (scan .metadata) (length M / 2)) r
+    rooms : (leb (scan .clusters) (length C / clusterWidth) ≡ true) × (leb (scan .metadata) (length M / linkWidth) ≡ true)
+    rooms = both-true (leb (scan .clusters) (length C / clusterWidth)) (leb (scan .metadata) (length M / linkWidth)) r
 
-    pub clusters-fit : 4 * length (rowsOf (clusterList strict file s (scan .«clusters_at»))) ≤ length C
-    clusters-fit = let a = leb-true (scan .clusters) (length C / 4) (rooms .0) in let n = k .clustersCounted in omega arith
+    pub clusters-fit : clusterWidth * length (rowsOf (clusterList strict file s (scan .«clusters_at»))) ≤ length C
+    clusters-fit = let a = leb-true (scan .clusters) (length C / clusterWidth) (rooms .0) in let n = k .clustersCounted in omega arith
 
-    pub metadata-fit : 2 * length (rowsOf (linkList strict file s (scan .«metadata_at»))) ≤ length M
-    metadata-fit = let a = leb-true (scan .metadata) (length M / 2) (rooms .1) in let n = k .metadataCounted in omega arith
+    pub metadata-fit : linkWidth * length (rowsOf (linkList strict file s (scan .«metadata_at»))) ≤ length M
+    metadata-fit = let a = leb-true (scan .metadata) (length M / linkWidth) (rooms .1) in let n = k .metadataCounted in omega arith
 
     pub all-read : {C′ M′ : List ℕ}
         → C′ ≡ over (flat clusterWords (rowsOf (clusterList strict file s (scan .«clusters_at»)))) C
         → M′ ≡ over (flat linkWords (rowsOf (linkList strict file s (scan .«metadata_at»)))) M
         → Answered (inEnvelope 2 (whole strict (payload checksum file strict) s 4)) C C′ M M′ (Accepted (scan .clusters) (scan .metadata))
-    unfolding answer reported written
+    unfolding answer written
     all-read x y =
         let z = room-is ∙ r in
         record {
@@ -68,17 +66,17 @@ module _ {checksum file : ℕ} {strict : Bool} {s : List ℕ} {scan : FooterScan
 
 -- a footer beside its header
 
-pub header-first : (header footer : List ℕ) (file : ℕ) {g : Fault} → headerOf header ≡ refused g → footerBeside header footer file ≡ refusal 1 (g .number)
+pub header-first : (header footer : List ℕ) (file : ℕ) {g : Fault} → headerOf header ≡ refused g → footerBeside header footer file ≡ refusal 1 g
 unfolding footerBeside
 header-first header footer file w = rw w
 
 module _ (header footer : List ℕ) (file : ℕ) {h : Header} {p : ℕ} (w : headerOf header ≡ found h p) where
-  pub not-opened : {f : Fault} → opened 1 footer ≡ refused f → footerBeside header footer file ≡ refusal 2 (f .number)
+  pub not-opened : {f : Fault} → opened 1 footer ≡ refused f → footerBeside header footer file ≡ refusal 2 f
   unfolding footerBeside footerOf versioned
   not-opened o = rw (w, o)
 
   -- what is left of the payload's reading, by the header's checksum, is left of the footer's
-  pub footer-read : {strict : Bool} {stop sum : ℕ} {s C C′ M M′ : List ℕ} {r : FooterAnswer} → opened 1 footer ≡ found strict stop → sum ≡ checksumOf header → s ≡ take stop footer
-      → Answered (inEnvelope 2 (whole strict (payload sum file strict) s 4)) C C′ M M′ r → Answered (footerBeside header footer file) C C′ M M′ r
+  pub footer-read : {v : Versions} {stop sum : ℕ} {s C C′ M M′ : List ℕ} {r : FooterAnswer} → opened 1 footer ≡ found v stop → sum ≡ checksumOf header → s ≡ take stop footer
+      → Answered (inEnvelope 2 (whole (v .strict) (payload sum file (v .strict)) s 4)) C C′ M M′ r → Answered (footerBeside header footer file) C C′ M M′ r
   unfolding footerBeside footerOf versioned
   footer-read o e u k = rw (w, o) (rw (e, u) at k)

@@ -1,29 +1,16 @@
--- What the code's answers say, as steps of a rule.
+-- What a scan of a payload says of it.
 use Prim.Native.Nat.{ℕ}
 use mathlib.Core.List.{List}
 use mathlib.Core.Path.{_≡_}
 use mathlib.Core.Bool.{Bool, true}
 use lib.ListN.{length}
-use Rattle.wire.specs.Reading.{Step, found, refused, accepted, rowsOf}
-use Rattle.wire.specs.Envelope.{whole}
-use Rattle.footer.specs.Footer.{Footer, payload, clusterList, linkList}
-use Rattle.footer.specs.declared.Link.{Link}
-use Rattle.footer.specs.declared.links.LinkStep.{LinkStep}
-use Rattle.footer.specs.declared.links.LinkStep.the-variants.{Found as LinkFound, Refused as LinkRefused}
-use Rattle.footer.specs.declared.ClusterRow.{ClusterRow}
-use Rattle.footer.specs.declared.clusters.ClusterStep.{ClusterStep}
-use Rattle.footer.specs.declared.clusters.ClusterStep.the-variants.{Found as ClusterFound, Refused as ClusterRefused}
+use Rattle.wire.specs.Reading.{found, refused, accepted, rowsOf}
+use Rattle.envelope.specs.Envelope.{whole}
+use Rattle.footer.specs.Footer.{Footer, payload}
+use Rattle.clusters.specs.Clusters.{clusterList, linkList}
 use Rattle.footer.specs.declared.lists.FooterScan.{FooterScan}
 use Rattle.footer.specs.declared.lists.ScanStep.{ScanStep}
 use Rattle.footer.specs.declared.lists.ScanStep.the-variants.{Found as ScanFound, Refused as ScanRefused}
-
-abbrev pub linkStep : LinkStep → Step Link
-linkStep (LinkFound a p) = found a p
-linkStep (LinkRefused f) = refused f
-
-abbrev pub clusterStep : ClusterStep → Step ClusterRow
-clusterStep (ClusterFound a p) = found a p
-clusterStep (ClusterRefused f) = refused f
 
 -- the footer whose lists stand where a scan says
 abbrev pub scannedFooter : Bool → ℕ → List ℕ → FooterScan → Footer

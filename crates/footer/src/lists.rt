@@ -1,16 +1,13 @@
 // The payload: the verdict on all of it, and then its two lists into the lent tables.
 use crate::FooterAnswer;
-use crate::clusters::fill_cluster_list;
-use crate::clusters::scan_cluster_list;
-use crate::links::fill_link_list;
-use crate::links::scan_link_list;
+use crate::fill::fill_cluster_list;
+use crate::fill::fill_link_list;
 use crate::opening::opening_at;
 use wire::Fault;
-use wire::Kind;
 use wire::NumberStep;
 use wire::PlaceStep;
 ghost use mathlib.Core.Path.{_≡_};
-ghost use Rattle.wire.specs.Envelope.{whole};
+ghost use Rattle.envelope.specs.Envelope.{whole};
 ghost use Rattle.header.specs.Beside.{inEnvelope};
 ghost use Rattle.footer.specs.Footer.{payload};
 ghost use Rattle.footer.specs.Tables.{fitting, Answered};
@@ -34,19 +31,23 @@ fn scan_payload(s: &[u8], strict: bool, checksum: u64, file: u64) -> ScanStep
     ensures { λ r. ⌜ Scans checksum file strict (now (s .entry)) r ⌝ }
 {
     match opening_at(s, strict, 4, checksum) {
-        PlaceStep::Found(clusters_at) => match scan_cluster_list(s, strict, clusters_at, file) {
+        PlaceStep::Found(clusters_at) => match clusters::scan_cluster_list(
+            s,
+            strict,
+            clusters_at,
+            file,
+        ) {
             NumberStep::Found(clusters, metadata_at) => {
-                match scan_link_list(s, strict, metadata_at, file) {
+                match clusters::scan_link_list(s, strict, metadata_at, file) {
                     NumberStep::Found(metadata, past) => {
-                        if wire::has_spare(strict, past, s.len()) {
-                            ScanStep::Refused(wire::fault_at(11, Kind::Spare, past))
-                        } else {
-                            ScanStep::Found(FooterScan {
+                        match frames::close_frame(strict, past, s.len()) {
+                            PlaceStep::Found(_) => ScanStep::Found(FooterScan {
                                 clusters_at,
                                 clusters: clusters as usize,
                                 metadata_at,
                                 metadata: metadata as usize,
-                            })
+                            }),
+                            PlaceStep::Refused(f) => ScanStep::Refused(f),
                         }
                     }
                     NumberStep::Refused(f) => ScanStep::Refused(f),
@@ -62,8 +63,8 @@ fn scan_payload(s: &[u8], strict: bool, checksum: u64, file: u64) -> ScanStep
 fn has_room(scan: FooterScan, clusters: usize, metadata: usize) -> bool
     ensures { λ r. ⌜ r ≡ fitting clusters metadata (scan .clusters) (scan .metadata) ⌝ }
 {
-    if scan.clusters <= clusters / 4 {
-        return scan.metadata <= metadata / 2;
+    if scan.clusters <= clusters / rows::CLUSTER_WORDS {
+        return scan.metadata <= metadata / rows::LINK_WORDS;
     }
     false
 }

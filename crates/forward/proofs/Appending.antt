@@ -1,6 +1,6 @@
 -- Demand 3's second half: appended fields and columns leave a header accepted, with its earlier rows.
 use Prim.Native.Nat.{ℕ, zero, suc, _+_, _*_, _-_, _≤_, _<_, _/_}
-use mathlib.Core.List.{List, [], _∷_, _++_, map, map-append, append-assoc}
+use mathlib.Core.List.{List, [], _∷_, _++_, map, map-append, append-assoc, append-nil}
 use mathlib.Core.Bool.{Bool, true, false, not}
 use mathlib.Core.Path.{_≡_, refl, sym, ap, _∙_, subst}
 use native.Mathlib.Omega.{arith}
@@ -9,26 +9,30 @@ use lib.Seq.{getD-append-add, take-append-seam}
 use lib.Dec.{leb, ltb}
 use borrow.Author.Tests.{ltb-true, lt-ltb, le-leb}
 use lib.ListN.{length, getD, take, drop, length-append, length-map, List·getD-append}
+use Rattle.numbers.specs.Lists.{Each}
 use Rattle.numbers.specs.Choice.{both}
 use Rattle.wire.specs.Reading.{unless, found}
 use Rattle.numbers.specs.Rows.{flat, over}
 use Rattle.column_type.specs.Types.{known}
 use Rattle.header.specs.Header.{Header}
 use Rattle.records.specs.Records.{aliased}
-use Rattle.header.specs.Parents.{allReach}
-use Rattle.header.specs.Tables.{headerOf, dark, roomFor}
-use Rattle.records.specs.Words.{columnWords, aliasWords}
-use Rattle.records.specs.declared.FieldHead.{FieldHead}
-use Rattle.records.specs.declared.ColumnRow.{ColumnRow}
-use Rattle.records.specs.declared.AliasRow.{AliasRow}
+use Rattle.parents.specs.Parents.{allReach}
+use Rattle.header.specs.Tables.{headerOf, roomFor}
+use Rattle.parents.specs.Dark.{dark}
+use Rattle.rows.proofs.TableLaws.{flat-is, flat-length, flat-join}
+use Rattle.rows.specs.Words.{columnWidth, aliasWidth, fieldWidth, columnWords, aliasWords}
+use Rattle.rows.specs.declared.FieldHead.{FieldHead}
+use Rattle.rows.specs.declared.ColumnRow.{ColumnRow}
+use Rattle.rows.specs.declared.AliasRow.{AliasRow}
 use Rattle.header.specs.declared.HeaderTables.{HeaderTables}
-use Rattle.tree.specs.Shape.{chars, Shape, Framed, All, ValidItems, recordShape}
+use Rattle.tree.specs.Shape.{chars, Shape, Framed, ValidItems, recordShape}
 use Rattle.tree.specs.HeaderTree.{FieldContent, HeaderContent, PayloadContent, headShape, fieldShape, columnShape, aliasShape, flagsIn, parentsIn, fieldContent, headerContent, listsShape, payloadShape, headerCarrier, HeaderTree, renderHeader, tablesOf, RightHeader}
-use Rattle.tree.proofs.Simple.{both-true}
+use Rattle.numbers.proofs.Choice.{both-true, both-false}
 use Rattle.tree.proofs.HeaderLaws.{header-complete, tables-known, parents-same}
 use Rattle.forward.specs.SameTables.{fieldSays, fieldRow}
 use Rattle.forward.specs.HeaderAppend.{appended, SelfParented, Appendix, HeaderAppend}
-use Rattle.forward.proofs.Calls.{answer-of, accepted-call, roomy-call, mark, fields-say}
+use Rattle.tree.proofs.HeaderCalls.{answer-of, accepted-call, roomy-call}
+use Rattle.forward.proofs.Calls.{mark, fields-say}
 use Rattle.forward.proofs.HeaderForward.{the-header}
 use Rattle.forward.proofs.Chains.{Closed-under, Tops, reach-appended, above-appended, not-above}
 
@@ -43,27 +47,27 @@ passed b k e = rw e refl
 
 -- lists of which each item has a property
 
-all-append : {T : Type 0} (P : T → Type 0) (xs ys : List T) → All P xs → All P ys → All P (xs ++ ys)
-all-append P [] ys a b = b
-all-append P (x ∷ xs) ys a b = (a .0, all-append P xs ys (a .1) b)
+each-append : {T : Type 0} (P : T → Type 0) (xs ys : List T) → Each P xs → Each P ys → Each P (xs ++ ys)
+each-append P [] ys a b = b
+each-append P (x ∷ xs) ys a b = (a .0, each-append P xs ys (a .1) b)
 
-all-weaken : {T : Type 0} {P Q : T → Type 0} → ((t : T) → P t → Q t) → (xs : List T) → All P xs → All Q xs
-all-weaken f [] a = tt
-all-weaken f (x ∷ xs) a = (f x (a .0), all-weaken f xs (a .1))
+each-weaken : {T : Type 0} {P Q : T → Type 0} → ((t : T) → P t → Q t) → (xs : List T) → Each P xs → Each Q xs
+each-weaken f [] a = tt
+each-weaken f (x ∷ xs) a = (f x (a .0), each-weaken f xs (a .1))
 
-all-map : {T U : Type 0} (P : U → Type 0) (f : T → U) (xs : List T) → All (λ t. P (f t)) xs → All P (map f xs)
-all-map P f [] a = tt
-all-map P f (x ∷ xs) a = (a .0, all-map P f xs (a .1))
+each-map : {T U : Type 0} (P : U → Type 0) (f : T → U) (xs : List T) → Each (λ t. P (f t)) xs → Each P (map f xs)
+each-map P f [] a = tt
+each-map P f (x ∷ xs) a = (a .0, each-map P f xs (a .1))
 
 -- items whose shape does not hang on those before are valid when each is
 
-items-all : {T C : Type 0} (S : Shape T C) (done cs : List C) → ValidItems (λ _. S) done cs → All (S .Valid) cs
-items-all S done [] v = tt
-items-all S done (c ∷ cs) v = (v .0, items-all S (done ++ (c ∷ [])) cs (v .1))
+items-each : {T C : Type 0} (S : Shape T C) (done cs : List C) → ValidItems (λ _. S) done cs → Each (S .Valid) cs
+items-each S done [] v = tt
+items-each S done (c ∷ cs) v = (v .0, items-each S (done ++ (c ∷ [])) cs (v .1))
 
-all-items : {T C : Type 0} (S : Shape T C) (done cs : List C) → All (S .Valid) cs → ValidItems (λ _. S) done cs
-all-items S done [] v = tt
-all-items S done (c ∷ cs) v = (v .0, all-items S (done ++ (c ∷ [])) cs (v .1))
+each-item : {T C : Type 0} (S : Shape T C) (done cs : List C) → Each (S .Valid) cs → ValidItems (λ _. S) done cs
+each-item S done [] v = tt
+each-item S done (c ∷ cs) v = (v .0, each-item S (done ++ (c ∷ [])) cs (v .1))
 
 -- rows stay valid under greater counts
 
@@ -121,7 +125,7 @@ with-rows c ns ks =
     }
 
 appended-valid : (c : PayloadContent) (ns : List FieldContent) (ks : List ColumnRow) → payloadShape .Valid c
-    → All (fieldShape (length (c .tables .fields) + length ns) .Valid) ns → All (columnShape (length (c .tables .fields) + length ns) .Valid) ks
+    → Each (fieldShape (length (c .tables .fields) + length ns) .Valid) ns → Each (columnShape (length (c .tables .fields) + length ns) .Valid) ks
     → length (c .tables .fields) + length ns ≤ 512 → length (c .tables .columns) + length ks ≤ 1024 → payloadShape .Valid (with-rows c ns ks)
 unfolding payloadShape listsShape
 appended-valid c ns ks v vn vk few few′ =
@@ -134,17 +138,17 @@ appended-valid c ns ks v vn vk few few′ =
     let long : length (fs ++ ns) ≡ m = length-append fs ns in
     let long′ : length (cs ++ ks) ≡ length cs + length ks = length-append cs ks in
     let flags : flagsIn (fs ++ ns) ≡ flagsIn fs ++ flagsIn ns = map-append (λ (x : FieldContent). x .head .flags) fs ns in
-    let vf = items-all (recordShape (fieldShape n)) [] fs (lists .0 .2) in
-    let vc = items-all (recordShape (columnShape n)) [] cs (lists .1 .0 .2) in
-    let va = items-all (recordShape (aliasShape (flagsIn fs) (length cs))) [] as′ (lists .1 .1 .0 .2) in
-    let fields = all-items (recordShape (fieldShape m)) [] (fs ++ ns) (all-append (fieldShape m .Valid) fs ns (all-weaken (field-valid n m (omega arith)) fs vf) vn) in
-    let columns = all-items (recordShape (columnShape m)) [] (cs ++ ks) (all-append (columnShape m .Valid) cs ks (all-weaken (column-valid n m (omega arith)) cs vc) vk) in
-    let aliases = all-items (recordShape (aliasShape (flagsIn fs ++ flagsIn ns) (length (cs ++ ks)))) [] as′ (all-weaken (alias-valid (flagsIn fs) (flagsIn ns) (length cs) (length (cs ++ ks)) (omega arith)) as′ va) in
+    let vf = items-each (recordShape (fieldShape n)) [] fs (lists .0 .2) in
+    let vc = items-each (recordShape (columnShape n)) [] cs (lists .1 .0 .2) in
+    let va = items-each (recordShape (aliasShape (flagsIn fs) (length cs))) [] as′ (lists .1 .1 .0 .2) in
+    let fields = each-item (recordShape (fieldShape m)) [] (fs ++ ns) (each-append (fieldShape m .Valid) fs ns (each-weaken (field-valid n m (omega arith)) fs vf) vn) in
+    let columns = each-item (recordShape (columnShape m)) [] (cs ++ ks) (each-append (columnShape m .Valid) cs ks (each-weaken (column-valid n m (omega arith)) cs vc) vk) in
+    let aliases = each-item (recordShape (aliasShape (flagsIn fs ++ flagsIn ns) (length (cs ++ ks)))) [] as′ (each-weaken (alias-valid (flagsIn fs) (flagsIn ns) (length cs) (length (cs ++ ks)) (omega arith)) as′ va) in
     (v .0, ((rw long (omega arith, passed (leb m 512) 10 (le-leb m 512 few), fields), (rw (long, long′) (omega arith, passed (leb (length cs + length ks) 1024) 10 (le-leb (length cs + length ks) 1024 few′), columns), (rw flags (lists .1 .1 .0 .0, lists .1 .1 .0 .1, aliases), tt))), tt))
 
 -- parents
 
-parent-at : (n : ℕ) (fs : List FieldContent) → All (λ (c : FieldContent). c .head .parent .0 < n) fs → (f : ℕ) → f < length fs → getD (parentsIn fs) f 0 < n
+parent-at : (n : ℕ) (fs : List FieldContent) → Each (λ (c : FieldContent). c .head .parent .0 < n) fs → (f : ℕ) → f < length fs → getD (parentsIn fs) f 0 < n
 parent-at n [] a f h = absurd (omega arith)
 parent-at n (c ∷ fs) a zero h = a .0
 parent-at n (c ∷ fs) a (suc f) h = parent-at n fs (a .1) f (omega arith)
@@ -155,19 +159,15 @@ own-parents n [] s i h = absurd (omega arith)
 own-parents n (f ∷ fs) s zero h = s .0 ∙ sym (add-zero n)
 own-parents n (f ∷ fs) s (suc i) h = own-parents (suc n) fs (s .1) i (omega arith) ∙ omega arith
 
-both-false : (b : Bool) → both b false ≡ false
-both-false true = refl
-both-false false = refl
-
 module _ (old new : List ℕ) (closed : Closed-under old) (reach : allReach old (length old) ≡ true) (tops : Tops (old ++ new) (length old)) (i : ℕ) (before : i < length old) where
-  new-dark : (ks : List ColumnRow) → All (λ (c : ColumnRow). length old ≤ c .field .0) ks
-      → All (λ (c : ColumnRow). c .field .0 < length (old ++ new)) ks → dark (old ++ new) ks i ≡ false
+  new-dark : (ks : List ColumnRow) → Each (λ (c : ColumnRow). length old ≤ c .field .0) ks
+      → Each (λ (c : ColumnRow). c .field .0 < length (old ++ new)) ks → dark (old ++ new) ks i ≡ false
   unfolding dark
   new-dark [] a b = refl
   new-dark (k ∷ ks) a b = rw (not-above old new closed reach tops i (k .field .0) before (a .0) (b .0), both-false (not (known (k .«column_type»))), new-dark ks (a .1) (b .1)) refl
 
-  dark-appended : (cs ks : List ColumnRow) → All (λ (c : ColumnRow). c .field .0 < length old) cs
-      → All (λ (c : ColumnRow). length old ≤ c .field .0) ks → All (λ (c : ColumnRow). c .field .0 < length (old ++ new)) ks
+  dark-appended : (cs ks : List ColumnRow) → Each (λ (c : ColumnRow). c .field .0 < length old) cs
+      → Each (λ (c : ColumnRow). length old ≤ c .field .0) ks → Each (λ (c : ColumnRow). c .field .0 < length (old ++ new)) ks
       → dark (old ++ new) (cs ++ ks) i ≡ dark old cs i
   unfolding dark
   dark-appended [] ks a b c = new-dark ks b c
@@ -211,28 +211,28 @@ module _ (t : HeaderTree) (right : RightHeader t) (fields : List (Framed FieldCo
   counts′ : length cs + length ks ≡ length (t .inside .columns .inside) + length columns
   counts′ = rw (length-map (t .inside .columns .inside) inner, length-map columns inner) refl
 
-  validFields : All (fieldShape (length fs + length ns) .Valid) ns
-  validFields = rw counts (all-map (fieldShape (length (t .inside .fields .inside) + length fields) .Valid) inner fields (a .validFields))
+  validFields : Each (fieldShape (length fs + length ns) .Valid) ns
+  validFields = rw counts (each-map (fieldShape (length (t .inside .fields .inside) + length fields) .Valid) inner fields (a .validFields))
 
-  validColumns : All (columnShape (length fs + length ns) .Valid) ks
-  validColumns = rw counts (all-map (columnShape (length (t .inside .fields .inside) + length fields) .Valid) inner columns (a .validColumns))
+  validColumns : Each (columnShape (length fs + length ns) .Valid) ks
+  validColumns = rw counts (each-map (columnShape (length (t .inside .fields .inside) + length fields) .Valid) inner columns (a .validColumns))
 
   new-valid : payloadShape .Valid (with-rows content ns ks)
   new-valid = appended-valid content ns ks (right .envelope .valid) validFields validColumns (omega (arith, a .fewFields, counts)) (omega (arith, a .fewColumns, counts′))
 
-  old-valid : All (fieldShape (length fs) .Valid) fs
+  old-valid : Each (fieldShape (length fs) .Valid) fs
   unfolding payloadShape listsShape
-  old-valid = items-all (recordShape (fieldShape (length fs))) [] fs (right .envelope .valid .1 .0 .0 .2)
+  old-valid = items-each (recordShape (fieldShape (length fs))) [] fs (right .envelope .valid .1 .0 .0 .2)
 
-  old-valid′ : All (columnShape (length fs) .Valid) cs
+  old-valid′ : Each (columnShape (length fs) .Valid) cs
   unfolding payloadShape listsShape
-  old-valid′ = items-all (recordShape (columnShape (length fs))) [] cs (right .envelope .valid .1 .0 .1 .0 .2)
+  old-valid′ = items-each (recordShape (columnShape (length fs))) [] cs (right .envelope .valid .1 .0 .1 .0 .2)
 
   long : length (parentsIn fs) ≡ length fs
   long = length-map fs (λ (c : FieldContent). c .head .parent .0)
 
   closed : Closed-under (parentsIn fs)
-  closed f h = rw long (parent-at (length fs) fs (all-weaken (field-parent (length fs)) fs old-valid) f (omega (arith, long)))
+  closed f h = rw long (parent-at (length fs) fs (each-weaken (field-parent (length fs)) fs old-valid) f (omega (arith, long)))
 
   tops : Tops (parentsIn fs ++ parentsIn ns) (length (parentsIn fs))
   tops f l h =
@@ -266,8 +266,8 @@ module _ (t : HeaderTree) (right : RightHeader t) (fields : List (Framed FieldCo
           plain = λ e.
               let (p, spare) = r .plain e in
               let l = p .1 .0 in
-              let plainFields = all-append (λ (f : Framed FieldContent). Unit {0} × (f .spare ≡ [])) (t .inside .fields .inside) fields (l .0 .0) (all-weaken (λ f s. (tt, s)) fields (a .plainFields e)) in
-              let plainColumns = all-append (λ (f : Framed ColumnRow). Unit {0} × (f .spare ≡ [])) (t .inside .columns .inside) columns (l .1 .0 .0) (all-weaken (λ f s. (tt, s)) columns (a .plainColumns e)) in
+              let plainFields = each-append (λ (f : Framed FieldContent). Unit {0} × (f .spare ≡ [])) (t .inside .fields .inside) fields (l .0 .0) (each-weaken (λ f s. (tt, s)) fields (a .plainFields e)) in
+              let plainColumns = each-append (λ (f : Framed ColumnRow). Unit {0} × (f .spare ≡ [])) (t .inside .columns .inside) columns (l .1 .0 .0) (each-weaken (λ f s. (tt, s)) columns (a .plainColumns e)) in
               ((p .0, (((plainFields, l .0 .1), ((plainColumns, l .1 .0 .1), l .1 .1)), p .1 .1)), spare);
         };
         small = a .small;
@@ -277,9 +277,9 @@ module _ (t : HeaderTree) (right : RightHeader t) (fields : List (Framed FieldCo
   marks : (i : ℕ) → i < length fs → dark (parentsIn (fs ++ ns)) (cs ++ ks) i ≡ dark (parentsIn fs) cs i
   marks i h =
       let size : length fs + length ns ≡ length (parentsIn fs ++ parentsIn ns) = omega (arith, length-append (parentsIn fs) (parentsIn ns), long, length-map ns (λ (c : FieldContent). c .head .parent .0)) in
-      let old : All (λ (c : ColumnRow). c .field .0 < length (parentsIn fs)) cs = rw long (all-weaken (column-field (length fs)) cs old-valid′) in
-      let new : All (λ (c : ColumnRow). length (parentsIn fs) ≤ c .field .0) ks = rw (long, length-map (t .inside .fields .inside) inner) (all-map (λ (c : ColumnRow). length (t .inside .fields .inside) ≤ c .field .0) inner columns (a .onThem)) in
-      let new′ : All (λ (c : ColumnRow). c .field .0 < length (parentsIn fs ++ parentsIn ns)) ks = rw (← size) (all-weaken (column-field (length fs + length ns)) ks validColumns) in
+      let old : Each (λ (c : ColumnRow). c .field .0 < length (parentsIn fs)) cs = rw long (each-weaken (column-field (length fs)) cs old-valid′) in
+      let new : Each (λ (c : ColumnRow). length (parentsIn fs) ≤ c .field .0) ks = rw (long, length-map (t .inside .fields .inside) inner) (each-map (λ (c : ColumnRow). length (t .inside .fields .inside) ≤ c .field .0) inner columns (a .onThem)) in
+      let new′ : Each (λ (c : ColumnRow). c .field .0 < length (parentsIn fs ++ parentsIn ns)) ks = rw (← size) (each-weaken (column-field (length fs + length ns)) ks validColumns) in
       rw parents-appended (dark-appended (parentsIn fs) (parentsIn ns) closed reach tops i (omega (arith, long)) cs ks old new new′)
 
 -- the tables of a header with fields and columns appended
@@ -331,35 +331,32 @@ read-more e h q reads t right is fields columns a =
 
 -- words of rows
 
-flat-append : {A : Type 0} (w : A → List ℕ) (xs ys : List A) → flat w (xs ++ ys) ≡ flat w xs ++ flat w ys
-unfolding flat
-flat-append w [] ys = refl
-flat-append w (x ∷ xs) ys = ap (λ (l : List ℕ). w x ++ l) (flat-append w xs ys) ∙ sym (append-assoc (w x) (flat w xs) (flat w ys))
+long-rows : {A : Type 0} (w : A → List ℕ) (width : ℕ) → ((x : A) → length (w x) ≡ width) → (xs : List A) → length (flat w xs) ≡ width * length xs
+long-rows w width each xs = ap length (sym (flat-is w 0 xs)) ∙ flat-length (λ _. w) width (λ _. each) 0 xs
 
-column-long : (cs : List ColumnRow) → length (flat columnWords cs) ≡ 4 * length cs
-unfolding flat columnWords
-column-long [] = refl
-column-long (c ∷ cs) = omega (arith, column-long cs)
+-- the first rows of a table, whatever rows follow and whatever stood there before
+rows-in-front : {A : Type 0} (w : A → List ℕ) (width : ℕ) → ((x : A) → length (w x) ≡ width) → (all xs ys : List A) → all ≡ xs ++ ys → (old : List ℕ)
+    → take (width * length xs) (over (flat w all) old) ≡ flat w xs
+rows-in-front w width each all xs ys is old =
+    let x = flat w xs in
+    let r = drop (length (flat w all)) old in
+    ap (λ (n : ℕ). take n (flat w all ++ r)) (sym (long-rows w width each xs)) ∙ ap (λ (l : List _). take (length x) (flat w l ++ r)) is
+    ∙ ap (λ (l : List ℕ). take (length x) (l ++ r)) (flat-join w xs ys) ∙ ap (take (length x)) (append-assoc x (flat w ys) r) ∙ take-append-seam x (flat w ys ++ r)
 
--- the first rows of a table of columns
-first-columns : (cs ks : List ColumnRow) (old : List ℕ) → take (4 * length cs) (over (flat columnWords (cs ++ ks)) old) ≡ take (4 * length cs) (over (flat columnWords cs) old)
-first-columns cs ks old =
-    let x = flat columnWords cs in
-    let y = flat columnWords ks in
-    let r = drop (length (flat columnWords (cs ++ ks))) old in
-    let long = column-long cs in
-    let left : take (length x) ((x ++ y) ++ r) ≡ x = ap (take (length x)) (append-assoc x y r) ∙ take-append-seam x (y ++ r) in
-    let right : take (length x) (x ++ drop (length x) old) ≡ x = take-append-seam x (drop (length x) old) in
-    ap (λ (n : ℕ). take n (flat columnWords (cs ++ ks) ++ r)) (sym long) ∙ ap (λ (l : List ℕ). take (length x) (l ++ r)) (flat-append columnWords cs ks) ∙ left ∙ sym right
-    ∙ ap (λ (n : ℕ). take n (over x old)) long
+-- two tables that start with the same n rows
+same-front : {A : Type 0} (w : A → List ℕ) (width : ℕ) → ((x : A) → length (w x) ≡ width) → (all xs ys : List A) → all ≡ xs ++ ys
+    → (old old′ : List ℕ) {table table′ : List ℕ} → table ≡ over (flat w xs) old → table′ ≡ over (flat w all) old′ → {n : ℕ} → n ≡ length xs
+    → take (width * n) table′ ≡ take (width * n) table
+same-front w width each all xs ys is old old′ t t′ count =
+    rw (t, t′, count) (rows-in-front w width each all xs ys is old′ ∙ sym (rows-in-front w width each xs xs [] (sym (append-nil xs)) old))
 
--- room for the rows, by counts
-more-room : (f c a : ℕ) (h h′ : Header) → length (h′ .lists .fields) ≤ f / 15 → length (h′ .lists .columns) ≤ c / 4
-    → length (h′ .lists .aliases) ≡ length (h .lists .aliases) → roomFor f c a (h .lists) ≡ true → roomFor f c a (h′ .lists) ≡ true
-more-room f c a h h′ x y same room =
-    let (_, later) = both-true (leb (length (h .lists .fields)) (f / 15)) _ room in
-    let (_, last) = both-true (leb (length (h .lists .columns)) (c / 4)) _ later in
-    rw (le-leb (length (h′ .lists .fields)) (f / 15) x, le-leb (length (h′ .lists .columns)) (c / 4) y, same) last
+column-long : (c : ColumnRow) → length (columnWords c) ≡ columnWidth
+unfolding columnWords
+column-long c = refl
+
+alias-long : (a : AliasRow) → length (aliasWords a) ≡ aliasWidth
+unfolding aliasWords
+alias-long a = refl
 
 -- demand 3, second half
 pub header-append : HeaderAppend
@@ -371,7 +368,7 @@ header-append e f₀ f c₀ c a₀ a x bytes read =
     let answers = call .answers in
     record {
       header = the;
-      append = λ fields columns ap′ roomy roomy′ f′ c′ a′ r read′.
+      append = λ fields columns ap′ f₁ f′ c₁ c′ a₁ a′ r roomy roomy′ roomy″ read′.
           let e′ = renderHeader (appended (the .tree) fields columns) in
           let more = read-more e h (call .place) (call .reads) (the .tree) (the .right) (the .bytes) fields columns ap′ in
           let h′ = more .header in
@@ -379,25 +376,24 @@ header-append e f₀ f c₀ c a₀ a x bytes read =
           let l′ = h′ .lists in
           let n : length (l′ .fields) ≡ length (l .fields) + length fields = sym (length-map (l′ .fields) (fieldContent e′)) ∙ ap length (more .fieldsAre) ∙ length-append (map (fieldContent e) (l .fields)) (map inner fields) ∙ (λ i. length-map (l .fields) (fieldContent e) i + length-map fields inner i) in
           let k : length (l′ .columns) ≡ length (l .columns) + length columns = ap length (more .columnsAre) ∙ length-append (l .columns) (map inner columns) ∙ ap (λ (j : ℕ). length (l .columns) + j) (length-map columns inner) in
+          let m : length (l′ .aliases) ≡ length (l .aliases) = ap length (more .aliasesAre) in
           let fields-x : x .fields ≡ length (l .fields) = ap (λ (y : HeaderTables). y .fields) answers in
           let columns-x : x .columns ≡ length (l .columns) = ap (λ (y : HeaderTables). y .columns) answers in
-          let room = more-room (length f₀) (length c₀) (length a₀) h h′ (omega (arith, roomy, fields-x)) (omega (arith, roomy′, columns-x)) (ap length (more .aliasesAre)) (call .room) in
-          let (accepts, f-is, c-is, a-is) = roomy-call e′ f₀ f′ c₀ c′ a₀ a′ r h′ (more .place) (more .reads) room read′ in
+          let aliases-x : x .aliases ≡ length (l .aliases) = ap (λ (y : HeaderTables). y .aliases) answers in
+          let room : roomFor (length f₁) (length c₁) (length a₁) l′ ≡ true = rw (le-leb (length (l′ .fields)) (length f₁ / fieldWidth) (omega (arith, roomy, fields-x, n)), le-leb (length (l′ .columns)) (length c₁ / columnWidth) (omega (arith, roomy′, columns-x, k)), le-leb (length (l′ .aliases)) (length a₁ / aliasWidth) (omega (arith, roomy″, aliases-x, m))) refl in
+          let (accepts, f-is, c-is, a-is) = roomy-call e′ f₁ f′ c₁ c′ a₁ a′ r h′ (more .place) (more .reads) room read′ in
           record {
             answer = answer-of h′;
             accepts = accepts;
             moreFields = n ∙ ap (λ (j : ℕ). j + length fields) (sym fields-x);
             moreColumns = k ∙ ap (λ (j : ℕ). j + length columns) (sym columns-x);
-            sameAliases = ap length (more .aliasesAre) ∙ sym (ap (λ (y : HeaderTables). y .aliases) answers);
+            sameAliases = m ∙ sym aliases-x;
             name = more .name ∙ sym (ap (λ (y : HeaderTables). chars e (y .texts .name)) answers);
             description = more .description ∙ sym (ap (λ (y : HeaderTables). chars e (y .texts .description)) answers);
             fieldRows = λ i less.
-                ap (λ (w : List ℕ). fieldSays e′ (fieldRow w i)) f-is ∙ fields-say e e′ f₀ f₀ l l′ (map inner fields) (more .fieldsAre) (more .marks-are) i (omega (arith, fields-x))
+                ap (λ (w : List ℕ). fieldSays e′ (fieldRow w i)) f-is ∙ fields-say e e′ f₀ f₁ l l′ (map inner fields) (more .fieldsAre) (more .marks-are) i (omega (arith, fields-x))
                 ∙ sym (ap (λ (w : List ℕ). fieldSays e (fieldRow w i)) (call .fields));
-            columnRows =
-                ap (take (4 * x .columns)) c-is ∙ ap (λ (j : ℕ). take (4 * j) (over (flat columnWords (l′ .columns)) c₀)) columns-x
-                ∙ ap (λ (cs : List ColumnRow). take (4 * length (l .columns)) (over (flat columnWords cs) c₀)) (more .columnsAre) ∙ first-columns (l .columns) (map inner columns) c₀
-                ∙ ap (λ (j : ℕ). take (4 * j) (over (flat columnWords (l .columns)) c₀)) (sym columns-x) ∙ ap (take (4 * x .columns)) (sym (call .columns));
-            aliasRows = a-is ∙ ap (λ (as′ : List AliasRow). over (flat aliasWords as′) a₀) (more .aliasesAre) ∙ sym (call .aliases);
+            columnRows = same-front columnWords columnWidth column-long (l′ .columns) (l .columns) (map inner columns) (more .columnsAre) c₀ c₁ (call .columns) c-is columns-x;
+            aliasRows = same-front aliasWords aliasWidth alias-long (l′ .aliases) (l .aliases) [] (more .aliasesAre ∙ sym (append-nil (l .aliases))) a₀ a₁ (call .aliases) a-is aliases-x;
           };
     }

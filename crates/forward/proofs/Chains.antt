@@ -9,8 +9,8 @@ use lib.Dec.{eqb, leb}
 use borrow.Author.Tests.{eqb-true, eqb-false, eq-eqb, ne-eqb, leb-true, leb-false}
 use lib.ListN.{length, getD, length-append, List·getD-append}
 use Rattle.numbers.specs.Choice.{pick}
-use Rattle.header.specs.Parents.{topLevel, meets, reaches, allReach, isAbove}
-use Rattle.tree.proofs.Simple.{both-true}
+use Rattle.parents.specs.Parents.{topLevel, meets, reaches, allReach, isAbove}
+use Rattle.numbers.proofs.Choice.{both-true}
 
 -- every field's parent is a field
 abbrev pub Closed-under : List ℕ → Type 0
@@ -30,7 +30,7 @@ reaches-more parents (suc k) j f e = rw (suc-add k j) (go (topLevel parents f) e
     go false h later = later h
 
 -- a self-parented field is reached in any number of moves
-pub reaches-top : (parents : List ℕ) (k f : ℕ) → topLevel parents f ≡ true → reaches parents k f ≡ true
+reaches-top : (parents : List ℕ) (k f : ℕ) → topLevel parents f ≡ true → reaches parents k f ≡ true
 unfolding meets
 reaches-top parents zero f e = e
 reaches-top parents (suc k) f e = rw e refl

@@ -1,26 +1,24 @@
 -- Demand 3 for the page-list reader.
-use Prim.Native.Nat.{ℕ, suc, _≤_}
-use mathlib.Core.List.{List, [], _∷_, map}
-use mathlib.Core.Bool.{Bool, true}
+use Prim.Native.Nat.{ℕ, _≤_}
+use mathlib.Core.List.{List, map}
 use mathlib.Core.Path.{_≡_, refl, sym, ap, _∙_, subst}
-use native.Mathlib.Omega.{arith}
-use lib.Dec.{eqb}
 use lib.ListN.{length}
-use Rattle.numbers.specs.Choice.{pick, both}
 use Rattle.wire.specs.Reading.{found}
-use Rattle.wire.specs.Envelope.{ceiling, envelope}
+use Rattle.outcome.specs.Outcome.{isAccepted}
+use Rattle.envelope.specs.Envelope.{ceiling, envelope}
 use Rattle.header.specs.Header.{Header}
 use Rattle.header.specs.Tables.{headerOf}
-use Rattle.header.specs.Beside.{Beside, read, refusal}
-use Rattle.records.specs.declared.FieldRow.{FieldRow}
-use Rattle.records.specs.declared.ColumnRow.{ColumnRow}
-use Rattle.page_list.specs.PageList.{bitsOf, payload, totalOf, totals, summed, pageListOf}
-use Rattle.page_list.specs.Tables.{pageListBeside, answer, written}
-use Rattle.page_list.specs.declared.PageRow.{PageRow}
-use Rattle.page_list.specs.declared.PageListAnswer.the-variants.{Accepted}
+use Rattle.header.specs.Beside.{read}
+use Rattle.rows.specs.declared.ColumnRow.{ColumnRow}
+use Rattle.column_pages.specs.ColumnPages.{bitsOf, payload}
+use Rattle.totals.specs.declared.Totals.the-variants.{Agree}
+use Rattle.page_list.specs.PageList.{totalsOf, summed, pageListOf}
+use Rattle.page_list.specs.Tables.{pageListBeside, answer, outcomeOf, written}
+use Rattle.rows.specs.declared.PageRow.{PageRow}
+use Rattle.page_list.specs.declared.PageListAnswer.{PageListAnswer}
 use Rattle.tree.specs.Bytes.{Bytes}
 use Rattle.tree.specs.EnvelopeTree.{unsummed}
-use Rattle.tree.specs.HeaderTree.{FieldContent, HeaderContent, fieldContent, headerContent, renderHeader, tablesOf}
+use Rattle.tree.specs.HeaderTree.{HeaderContent, headerContent, renderHeader, tablesOf}
 use Rattle.tree.specs.PageListTree.{PageContent, PageListPayload, pageListCarrier, pageListShape, pageRows, PageListTree, renderPageList}
 use Rattle.tree.proofs.PageListLaws.{summed-found, page-list-render, page-list-complete, page-list-sound, page-list-known}
 use Rattle.tree.proofs.HeaderLaws.{tables-known}
@@ -29,30 +27,16 @@ use Rattle.forward.specs.Extension.{GrownList, GrownFrame}
 use Rattle.forward.specs.ReadersForward.{ChosenPageList, ThePageList, PageListForward}
 use Rattle.forward.proofs.Extending.{grown-each, grown-right}
 use Rattle.forward.proofs.HeaderForward.{the-header, still-read}
-use Rattle.forward.proofs.Besides.{both-read, both-read-is}
+use Rattle.tree.proofs.Besides.{both-read-is}
+use Rattle.tree.proofs.Accepted.{pages-read, totals-by}
 
 grown-page-list : (old new : PageListPayload) → GrownList GrownFrame old new → pageListCarrier .content old ≡ pageListCarrier .content new
 grown-page-list old new g = grown-each (map (λ (p : PageContent). p)) (old .inside) (new .inside) (g .inside)
 
 -- totals look only at numbers
-
-totals-in : ℕ → List ColumnRow → List (List PageRow) → ℕ → List FieldContent → Bool
-totals-in entries cs pss i [] = true
-totals-in entries cs pss i (c ∷ rest) =
-    both (pick (both (eqb (c .head .parent .0) i) (eqb (c .head .flags) 0)) (totalOf entries i cs pss) true) (totals-in entries cs pss (suc i) rest)
-
-totals-same : (s : List ℕ) (entries : ℕ) (cs : List ColumnRow) (pss : List (List PageRow)) (i : ℕ) (rows : List FieldRow)
-    → totals entries cs pss i rows ≡ totals-in entries cs pss i (map (fieldContent s) rows)
-unfolding totals totals-in
-totals-same s entries cs pss i [] = refl
-totals-same s entries cs pss i (r ∷ rs) = rw (totals-same s entries cs pss (suc i) rs) refl
-
 totals-tables : (e e′ : List ℕ) (h h′ : Header) (entries : ℕ) (pss : List (List PageRow)) → headerContent e′ h′ ≡ headerContent e h
-    → totals entries (h′ .lists .columns) pss 0 (h′ .lists .fields) ≡ totals entries (h .lists .columns) pss 0 (h .lists .fields)
-unfolding headerContent
-totals-tables e e′ h h′ entries pss same =
-    totals-same e′ entries (h′ .lists .columns) pss 0 (h′ .lists .fields) ∙ ap (λ (c : HeaderContent). totals-in entries (c .columns) pss 0 (c .fields)) same
-    ∙ sym (totals-same e entries (h .lists .columns) pss 0 (h .lists .fields))
+    → totalsOf entries (h′ .lists) pss ≡ totalsOf entries (h .lists) pss
+totals-tables e e′ h h′ entries pss same = totals-by e′ h′ _ same entries pss ∙ sym (totals-by e h _ refl entries pss)
 
 same-columns : (e e′ : List ℕ) (h h′ : Header) → headerContent e′ h′ ≡ headerContent e h → h′ .lists .columns ≡ h .lists .columns
 unfolding headerContent
@@ -82,27 +66,23 @@ still-listed file bits l pages p reads the u ch small =
 
 -- beside a header with the same tables
 listed-beside : (e e′ : List ℕ) (h h′ : Header) (entries file : ℕ) (l : List ℕ) (pages : List (List PageRow)) (p : ℕ) → headerContent e′ h′ ≡ headerContent e h
-    → totals entries (h .lists .columns) pages 0 (h .lists .fields) ≡ true → envelope 1 (payload file (bitsOf (h .lists .columns))) l ≡ found pages p
+    → totalsOf entries (h .lists) pages ≡ Agree → envelope 1 (payload file (bitsOf (h .lists .columns))) l ≡ found pages p
     → pageListOf h′ entries file l ≡ found pages p
 unfolding pageListOf summed
 listed-beside e e′ h h′ entries file l pages p same total reads =
     let columns = same-columns e e′ h h′ same in
     let reads′ : envelope 1 (payload file (bitsOf (h′ .lists .columns))) l ≡ found pages p = ap (λ (c : List ColumnRow). envelope 1 (payload file (bitsOf c)) l) columns ∙ reads in
-    let total′ : totals entries (h′ .lists .columns) pages 0 (h′ .lists .fields) ≡ true = totals-tables e e′ h h′ entries pages same ∙ total in
+    let total′ : totalsOf entries (h′ .lists) pages ≡ Agree = totals-tables e e′ h h′ entries pages same ∙ total in
     ap (summed entries (h′ .lists)) reads′ ∙ rw total′ refl
-
--- an accepting call read a page list
-pages-read : (n count : ℕ) (y : Beside (List (List PageRow))) → Accepted count ≡ answer n y → (pages : List (List PageRow)) × (y ≡ read pages)
-unfolding answer
-pages-read n count (read pages) e = (pages, refl)
-pages-read n count (refusal k r) e = let z : _≡_ {A = ℕ} 0 1 = cc in absurd (omega arith)
 
 -- demand 3 for the page-list reader
 pub page-list-forward : PageListForward
 unfolding pageListBeside pageListOf headerContent
 page-list-forward e l entries file p₀ p count bytes bytes′ call =
-    let (pages, is) = pages-read (length p₀) count (pageListBeside e l entries file) (call .answers) in
-    let b = both-read 3 (λ h. pageListOf h entries file l) (headerOf e) pages is in
+    let k = pages-read e l entries file (length p₀) (sym (ap (λ (y : PageListAnswer). isAccepted (outcomeOf y)) (call .answers))) in
+    let pages = k .pages in
+    let is = k .is in
+    let b = k .both in
     let h = b .header in
     let header = the-header e h (b .place) bytes (b .reads) in
     let columns : h .lists .columns ≡ tablesOf (header .tree) .columns = ap (λ (c : HeaderContent). c .columns) (tables-known (header .tree) (header .right) e h (b .place) (header .bytes) (b .reads)) in

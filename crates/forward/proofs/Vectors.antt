@@ -6,25 +6,23 @@ use mathlib.Core.Bool.{false}
 use mathlib.Core.Path.{_≡_, refl}
 use Rattle.numbers.specs.Numbers.{little}
 use Rattle.checksum.specs.Crc.{shifted, bits, byte, fold, crc32}
-use Rattle.wire.specs.Reading.{found, refused, recordOf, listOf, items, number, judged, string, ascii, frameSize, recordHead, listStop, countJudged, inItem}
-use Rattle.wire.specs.Envelope.{versioned, opened, checksumOf}
+use Rattle.wire.specs.Reading.{found, refused, number, judged, inItem}
+use Rattle.text.specs.Strings.{string, ascii}
+use Rattle.frames.specs.Frames.{recordOf, listOf, items, frameSize, recordHead, listStop, countJudged}
+use Rattle.envelope.specs.Envelope.{versioned, opened, checksumOf}
 use Rattle.wire.specs.declared.Kind.the-variants.{Number, Total}
 use Rattle.column_type.specs.Types.{known, widthOf, widths}
-use Rattle.wire.specs.Features.{features}
+use Rattle.envelope.specs.Features.{features}
 use Rattle.header.specs.Header.{Header, columnsAfter, aliasesAfter, lists, payload}
 use Rattle.records.specs.Records.{repetition, fieldHead, fieldTexts, field, column, alias, texts}
-use Rattle.header.specs.Parents.{meets, allReach}
-use Rattle.numbers.specs.Rows.{flat, flatBy}
-use Rattle.header.specs.Tables.{headerOf, chained, answer, reported, reportedTexts, written, dark, Answered}
-use Rattle.records.specs.Words.{fieldWords, columnWords, aliasWords}
-use Rattle.header.specs.declared.HeaderTables.{HeaderTables}
-use Rattle.header.specs.declared.HeaderAnswer.the-variants.{Accepted}
-use Rattle.footer.specs.Footer.{footerOf, link, cluster, entriesOf, payload as footer-payload}
-use Rattle.footer.specs.Tables.{footerBeside, answer as footer-answer, reported as footer-reported, written as footer-written, Answered as AnsweredFooter}
-use Rattle.footer.specs.declared.FooterAnswer.the-variants.{Accepted as AcceptedFooter}
-use Rattle.page_list.specs.Tables.{pageListBeside, answer as pages-answer, reported as pages-reported, written as pages-written, Answered as AnsweredPages}
-use Rattle.page_list.specs.declared.PageListAnswer.the-variants.{Accepted as AcceptedPages}
-use Rattle.page_list.specs.PageList.{pageListOf, summed, pages, page, pagesOf, totals, totalOf, elementsOf, payload as page-payload}
+use Rattle.parents.specs.Parents.{meets, allReach}
+use Rattle.header.specs.Tables.{headerOf, chained}
+use Rattle.clusters.specs.Clusters.{link, cluster, entriesOf}
+use Rattle.footer.specs.Footer.{footerOf, payload as footer-payload}
+use Rattle.page_list.specs.PageList.{pageListOf, summed}
+use Rattle.pages.specs.Pages.{pages, page, elementsOf}
+use Rattle.totals.specs.Totals.{totals, totalOf}
+use Rattle.column_pages.specs.ColumnPages.{pagesOf, payload as page-payload}
 use Rattle.tree.specs.Bytes.{spelled}
 use Rattle.tree.specs.EnvelopeTree.{unsummed, sealed}
 use Rattle.tree.specs.HeaderTree.{featureWords, textsShape, listsShape, payloadShape, headShape, stringsShape, fieldShape, columnShape, renderHeader}
@@ -167,7 +165,7 @@ one-page-list =
     1 ∷ 0 ∷ 1 ∷ 0 ∷ 224 ∷ 255 ∷ 255 ∷ 255 ∷ 1 ∷ 0 ∷ 0 ∷ 0 ∷ 232 ∷ 255 ∷ 255 ∷ 255 ∷ 1 ∷ 0 ∷ 0 ∷ 0 ∷ 3 ∷ 0 ∷ 0 ∷ 0 ∷ 24 ∷ 0 ∷ 0 ∷
     0 ∷ 50 ∷ 0 ∷ 0 ∷ 0 ∷ 0 ∷ 0 ∷ 0 ∷ 0 ∷ 50 ∷ 21 ∷ 194 ∷ 233 ∷ []
 
-pub one-page-list-read : pageListOf one 3 74 one-page-list ≡ found ((record { column = 0; elements = 3; checksum = false; size = 24; offset = 50 } ∷ []) ∷ []) 36
+pub one-page-list-read : pageListOf one 3 74 one-page-list ≡ found ((record { column = record { 0 = 0 }; elements = 3; checksum = false; size = 24; offset = 50 } ∷ []) ∷ []) 36
 unfolding versioned opened recordOf listOf items number judged string ascii frameSize recordHead listStop countJudged little crc32 fold byte bits shifted features pageListOf page-payload summed pages page pagesOf totals totalOf elementsOf known
 one-page-list-read = refl
 
@@ -188,50 +186,3 @@ page-list-tree =
 pub one-page-list-rendered : renderPageList page-list-tree ≡ one-page-list
 unfolding sealed unsummed pageListShape pagesShape pageShape spelled crc32 fold byte bits shifted
 one-page-list-rendered = refl
-
--- accepting calls: the tables that are lent, and what the calls leave in them
-
-abbrev pub lent-fields : List ℕ
-lent-fields = 0 ∷ 0 ∷ 0 ∷ 0 ∷ 0 ∷ 0 ∷ 0 ∷ 0 ∷ 0 ∷ 0 ∷ 0 ∷ 0 ∷ 0 ∷ 0 ∷ 0 ∷ []
-
-abbrev pub left-fields : List ℕ
-left-fields = 0 ∷ 0 ∷ 0 ∷ 0 ∷ 0 ∷ 0 ∷ 52 ∷ 1 ∷ 57 ∷ 0 ∷ 61 ∷ 0 ∷ 65 ∷ 0 ∷ 0 ∷ []
-
-abbrev pub lent-columns : List ℕ
-lent-columns = 9 ∷ 9 ∷ 9 ∷ 9 ∷ []
-
-abbrev pub left-columns : List ℕ
-left-columns = 1 ∷ 64 ∷ 0 ∷ 0 ∷ []
-
-abbrev pub header-answer : HeaderTables
-header-answer = record { texts = one .texts; fields = 1; columns = 1; aliases = 0 }
-
-pub header-call : Answered (headerOf field-header) lent-fields left-fields lent-columns left-columns [] [] (Accepted header-answer)
-unfolding answer reported reportedTexts written fieldWords columnWords aliasWords flat flatBy dark known meets
-header-call = rw field-header-read (record { answers = refl; reports = refl; reportsTexts = refl; fieldsAre = refl; columnsAre = refl; aliasesAre = refl })
-
-abbrev pub lent-clusters : List ℕ
-lent-clusters = 9 ∷ 9 ∷ 9 ∷ 9 ∷ []
-
-abbrev pub left-clusters : List ℕ
-left-clusters = 0 ∷ 3 ∷ 40 ∷ 100 ∷ []
-
-abbrev pub lent-links : List ℕ
-lent-links = 9 ∷ 9 ∷ 9 ∷ []
-
-abbrev pub left-links : List ℕ
-left-links = 7 ∷ 0 ∷ 9 ∷ []
-
-pub footer-call : AnsweredFooter (footerBeside field-header cluster-footer 140) lent-clusters left-clusters lent-links left-links (AcceptedFooter 1 1)
-unfolding footerBeside footer-answer footer-reported footer-written flat
-footer-call = rw (field-header-read, cluster-footer-read) (record { answers = refl; reports = refl; clustersAre = refl; metadataAre = refl })
-
-abbrev pub lent-pages : List ℕ
-lent-pages = 9 ∷ 9 ∷ 9 ∷ 9 ∷ 9 ∷ 9 ∷ []
-
-abbrev pub left-pages : List ℕ
-left-pages = 0 ∷ 3 ∷ 0 ∷ 24 ∷ 50 ∷ 9 ∷ []
-
-pub page-list-call : AnsweredPages (pageListBeside field-header one-page-list 3 74) lent-pages left-pages (AcceptedPages 1)
-unfolding pageListBeside pages-answer pages-reported pages-written flat pagesOf
-page-list-call = rw (field-header-read, one-page-list-read) (record { answers = refl; reports = refl; pagesAre = refl })

@@ -10,14 +10,17 @@ use borrow.Author.Tests.{le-leb}
 use Rattle.numbers.specs.Numbers.{little}
 use Rattle.numbers.specs.Rows.{flat, flatBy}
 use Rattle.checksum.specs.Crc.{shifted, bits, byte, fold, crc32}
-use Rattle.wire.specs.Reading.{found, recordOf, listOf, items, number, judged, string, ascii, frameSize, recordHead, listStop, countJudged}
-use Rattle.wire.specs.Envelope.{versioned, opened}
-use Rattle.wire.specs.Features.{features}
+use Rattle.wire.specs.Reading.{found, number, judged}
+use Rattle.text.specs.Strings.{string, ascii}
+use Rattle.frames.specs.Frames.{recordOf, listOf, items, frameSize, recordHead, listStop, countJudged}
+use Rattle.envelope.specs.Envelope.{versioned, opened}
+use Rattle.envelope.specs.Features.{features}
 use Rattle.records.specs.Records.{repetition, fieldHead, fieldTexts, field, texts}
-use Rattle.records.specs.Words.{fieldWords}
+use Rattle.rows.specs.Words.{fieldWidth, columnWidth, aliasWidth, fieldWords}
 use Rattle.header.specs.Header.{columnsAfter, aliasesAfter, lists, payload}
-use Rattle.header.specs.Parents.{meets, allReach}
-use Rattle.header.specs.Tables.{headerOf, chained, answer, written, dark}
+use Rattle.parents.specs.Parents.{meets, allReach}
+use Rattle.header.specs.Tables.{headerOf, chained, answer, written}
+use Rattle.parents.specs.Dark.{dark}
 use Rattle.header.specs.Samples.{smallestHeader, SmallestHeader, headerWithOneField, HeaderWithOneField}
 
 smallest-read : headerOf smallestHeader ≡ found (record {
@@ -33,9 +36,9 @@ none n = le-leb 0 n (omega arith)
 pub smallest-header : SmallestHeader
 unfolding answer written flat flatBy
 smallest-header f f′ c c′ a a′ r call =
-    let x = none (length f / 15) in
-    let y = none (length c / 4) in
-    let z = none (length a / 2) in
+    let x = none (length f / fieldWidth) in
+    let y = none (length c / columnWidth) in
+    let z = none (length a / aliasWidth) in
     (call .answers ∙ rw (smallest-read, x, y, z), call .fieldsAre ∙ rw (smallest-read, x, y, z), call .columnsAre ∙ rw (smallest-read, x, y, z), call .aliasesAre ∙ rw (smallest-read, x, y, z))
 
 one-field-read : headerOf headerWithOneField ≡ found (record {
@@ -55,7 +58,7 @@ one-field-read = refl
 pub header-with-one-field : HeaderWithOneField
 unfolding answer written flat flatBy fieldWords dark
 header-with-one-field f f′ c c′ a a′ r fits call =
-    let x : leb 1 (length f / 15) ≡ true = le-leb 1 (length f / 15) (omega arith) in
-    let y = none (length c / 4) in
-    let z = none (length a / 2) in
+    let x : leb 1 (length f / fieldWidth) ≡ true = le-leb 1 (length f / fieldWidth) (omega arith) in
+    let y = none (length c / columnWidth) in
+    let z = none (length a / aliasWidth) in
     (call .answers ∙ rw (one-field-read, x, y, z), call .fieldsAre ∙ rw (one-field-read, x, y, z), call .columnsAre ∙ rw (one-field-read, x, y, z), call .aliasesAre ∙ rw (one-field-read, x, y, z))

@@ -3,13 +3,15 @@ use Prim.Native.Nat.{ℕ}
 use mathlib.Core.List.{List, [], map}
 use mathlib.Core.Bool.{Bool}
 use lib.ListN.{length}
-use Rattle.wire.specs.Reading.{Step, Rule, _>>=_, give, here, recordOf, items, listOf, atMost}
-use Rattle.wire.specs.declared.ListHead.{ListHead}
+use Rattle.wire.specs.Reading.{Step, Rule, _>>=_, give, here}
+use Rattle.frames.specs.Frames.{recordOf, items, listOf, atMost}
+use Rattle.frames.specs.declared.ListHead.{ListHead}
 use Rattle.records.specs.Records.{field, column, alias, texts}
 use Rattle.records.specs.declared.HeaderTexts.{HeaderTexts}
-use Rattle.records.specs.declared.FieldRow.{FieldRow}
-use Rattle.records.specs.declared.ColumnRow.{ColumnRow}
-use Rattle.records.specs.declared.AliasRow.{AliasRow}
+use Rattle.rows.specs.Words.{mostFields, mostColumns, mostAliases}
+use Rattle.rows.specs.declared.FieldRow.{FieldRow}
+use Rattle.rows.specs.declared.ColumnRow.{ColumnRow}
+use Rattle.rows.specs.declared.AliasRow.{AliasRow}
 
 abbrev pub flagsOf : List FieldRow → List ℕ
 flagsOf = map (λ (r : FieldRow). r .head .flags)
@@ -28,13 +30,13 @@ fieldItems s strict list h = items list (λ _. recordOf strict (field (h .count)
 -- the three lists
 
 abbrev pub fieldList : Bool → Rule (List FieldRow)
-fieldList strict = listOf strict (atMost 512) (λ n _. recordOf strict (field n))
+fieldList strict = listOf strict (atMost mostFields) (λ n _. recordOf strict (field n))
 
 abbrev pub columnList : Bool → ℕ → Rule (List ColumnRow)
-columnList strict fields = listOf strict (atMost 1024) (λ _ _. recordOf strict (column fields))
+columnList strict fields = listOf strict (atMost mostColumns) (λ _ _. recordOf strict (column fields))
 
 abbrev pub aliasList : Bool → List ℕ → ℕ → Rule (List AliasRow)
-aliasList strict flags columns = listOf strict (atMost 256) (λ _ _. recordOf strict (alias flags columns))
+aliasList strict flags columns = listOf strict (atMost mostAliases) (λ _ _. recordOf strict (alias flags columns))
 
 -- what a header's three lists read, and where each stands
 pub record Lists : Type 0 where

@@ -3,6 +3,7 @@ use Prim.Native.Nat.{ℕ, _≤_}
 use mathlib.Core.List.{List, [], _∷_, _++_}
 use mathlib.Core.Path.{_≡_}
 use lib.ListN.{length, drop}
+use Rattle.rows.specs.Words.{fieldWidth}
 use Rattle.header.specs.Tables.{headerOf, Answered}
 use Rattle.header.specs.declared.HeaderAnswer.{HeaderAnswer}
 use Rattle.header.specs.declared.HeaderAnswer.the-variants.{Accepted}
@@ -31,6 +32,6 @@ headerWithOneField =
 -- it is accepted with that field's row, where a row is lent
 abbrev pub HeaderWithOneField : Type 0
 HeaderWithOneField =
-    (f f′ c c′ a a′ : List ℕ) (r : HeaderAnswer) → 15 ≤ length f → Answered (headerOf headerWithOneField) f f′ c c′ a a′ r
+    (f f′ c c′ a a′ : List ℕ) (r : HeaderAnswer) → fieldWidth ≤ length f → Answered (headerOf headerWithOneField) f f′ c c′ a a′ r
     → (r ≡ Accepted (record { texts = record { name = record { place = 16; len = 0 }; description = record { place = 20; len = 0 } }; fields = 1; columns = 0; aliases = 0 }))
     × (f′ ≡ (2 ∷ 3 ∷ 0 ∷ 1 ∷ 1 ∷ 5 ∷ 60 ∷ 2 ∷ 66 ∷ 1 ∷ 71 ∷ 0 ∷ 75 ∷ 1 ∷ 0 ∷ []) ++ drop 15 f) × (c′ ≡ c) × (a′ ≡ a)

@@ -1,2 +1,4 @@
+pub mod Choice
 pub mod Table
 pub mod Numbers
+pub mod Parts

@@ -1,14 +1,15 @@
 -- Laws of little-endian numbers: by their halves, and where there is room for them.
-use mathlib.Core.Path.{_≡_, sym, _∙_}
+use mathlib.Core.Path.{_≡_, refl, sym}
 use mathlib.Core.Bool.{true, false}
 use mathlib.Core.List.{List}
-use Prim.Native.Nat.{ℕ, _+_, _*_, _<_, _≤_}
+use Prim.Native.Nat.{ℕ, _+_, _*_, _<_}
 use lib.ListN.{length}
 use lib.Dec.{leb}
-use borrow.Author.Tests.{leb-true, lt-leb, le-leb}
+use borrow.Author.Tests.{lt-leb, le-leb}
 use native.Mathlib.Nat.{add-assoc}
 use native.Mathlib.Omega.{arith}
 use Rattle.numbers.specs.Numbers.{little, littleIn, Little, Room}
+use Rattle.numbers.proofs.Choice.{clash}
 
 pub little-four : (s : List ℕ) (i : ℕ) → little 4 s i ≡ little 2 s i + 65536 * little 2 s (i + 2)
 unfolding little
@@ -25,8 +26,8 @@ little-read k h e = record { is = rw h e; there = λ _. e }
 
 pub little-missing : (k : ℕ) {s : List ℕ} {at : ℕ} → leb (at + k) (length s) ≡ false → Little k s at 0
 unfolding littleIn
-little-missing k {s} {at} h = record { is = rw h; there = λ fits. absurd (omega (arith, leb-true 1 0 (sym h ∙ le-leb (at + k) (length s) fits))) }
+little-missing k {s} {at} h = record { is = rw h; there = λ fits. clash (le-leb (at + k) (length s) fits) h }
 
 pub false-room : (s : List ℕ) (at len : ℕ) → length s < at + len → Room s at len false
 false-room s at len h =
-    record { is = sym (lt-leb (at + len) (length s) h); fits = λ t. omega (arith, leb-true 1 0 t) }
+    record { is = sym (lt-leb (at + len) (length s) h); fits = λ t. clash t refl }

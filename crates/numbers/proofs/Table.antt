@@ -1,6 +1,6 @@
 -- A rule of a table, proved at all of its entries by one test that antt computes, one entry after the other.
 -- Assumes nothing.
-use mathlib.Core.Path.{_≡_, _∙_, subst, sym}
+use mathlib.Core.Path.{_∙_, subst, sym}
 use mathlib.Core.Bool.{Bool, true, false}
 use mathlib.Core.List.{List, [], _∷_}
 use Prim.Native.Nat.{ℕ, zero, suc, _+_, _<_}
@@ -31,15 +31,3 @@ from f (x ∷ xs) i t (suc k) h =
 
 pub at : (f : ℕ → ℕ → Bool) (xs : List ℕ) → T (every f 0 xs) → (k : ℕ) → k < length xs → T (f k (getD xs k 0))
 at f xs t k h = subst (λ (m : ℕ). T (f m (getD xs k 0))) (zero-add k) (from f xs 0 t k h)
-
--- the test f passes at each entry of the second list, with the entry of the first at its place
-abbrev pub pairs : (ℕ → ℕ → Bool) → List ℕ → List ℕ → Bool
-pairs f xs [] = true
-pairs f [] (y ∷ ys) = false
-pairs f (x ∷ xs) (y ∷ ys) = both (f x y) (pairs f xs ys)
-
-pub at-pair : (f : ℕ → ℕ → Bool) (xs ys : List ℕ) → T (pairs f xs ys) → (k : ℕ) → k < length ys → T (f (getD xs k 0) (getD ys k 0))
-at-pair f xs [] t k h = absurd (not-suc-le-zero h)
-at-pair f [] (y ∷ ys) t k h = absurd t
-at-pair f (x ∷ xs) (y ∷ ys) t zero h = both-left (f x y) (pairs f xs ys) t
-at-pair f (x ∷ xs) (y ∷ ys) t (suc k) h = at-pair f xs ys (both-right (f x y) (pairs f xs ys) t) k (le-of-suc-le-suc h)

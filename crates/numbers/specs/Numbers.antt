@@ -1,5 +1,5 @@
 -- Little-endian numbers in a list of bytes.
-use Prim.Native.Nat.{ℕ, zero, suc, _+_, _*_, _≤_}
+use Prim.Native.Nat.{ℕ, zero, suc, _+_, _*_, _/_, _≤_}
 use mathlib.Core.Path.{_≡_}
 use mathlib.Core.Bool.{Bool, true}
 use mathlib.Core.List.{List, []}
@@ -25,3 +25,7 @@ pub record Room (s : List ℕ) (at len : ℕ) (r : Bool) : Type 0 where
 pub record Little (k : ℕ) (s : List ℕ) (at r : ℕ) : Type 0 where
   pub is : r ≡ littleIn k s at
   pub there : at + k ≤ length s → r ≡ little k s at
+
+-- the bytes that hold n elements of so many bits
+abbrev pub bytesFor : ℕ → ℕ → ℕ
+bytesFor n bits = (n * bits + 7) / 8

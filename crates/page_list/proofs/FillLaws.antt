@@ -1,33 +1,37 @@
 -- The loop that writes the rows of each column's pages: they stand one column after the other.
-use Prim.Native.Nat.{ℕ, zero, suc, _+_, _-_, _*_, _≤_, _<_}
+use Prim.Native.Nat.{ℕ, zero, suc, _+_, _-_, _*_, _%_, _^_, _≤_, _<_}
 use mathlib.Core.Path.{_≡_, refl, sym, ap, _∙_}
 use mathlib.Core.Bool.{Bool, true}
 use mathlib.Core.List.{List, [], _∷_, _++_, append-assoc, append-nil}
-use native.Mathlib.Nat.{le-of-eq}
 use native.Mathlib.Omega.{arith}
 use borrow.Author.Tests.{leb-true}
 use borrow.Rule.Slice.PartMut.{putMid, same-len-mid}
-use lib.ListN.{length, getD, take, drop, length-append, length-drop, drop-of-length-le}
-use lib.Seq.{take-all, take-at, drop-at, drop-drop}
+use lib.ListN.{length, take, drop, length-append}
+use lib.Seq.{take-at, drop-at, drop-drop}
+use Rattle.numbers.proofs.Parts.{rest-of, put-rest}
 use Rattle.numbers.specs.Rows.{flat, over}
 use Rattle.wire.specs.declared.Fault.{Fault}
-use Rattle.wire.specs.Reading.{Step, found, refused, Rule, accepted, counted, rowsOf, items, after, within}
+use Rattle.wire.specs.Reading.{Step, found, refused, Rule, accepted, counted, rowsOf, after}
+use Rattle.frames.specs.Frames.{items, within}
 use Rattle.wire.proofs.Laws.{counted-found, counted-refused}
-use Rattle.wire.proofs.Loops.{Reached, reached-none, reached-more, reached-accepted, reached-all}
-use Rattle.page_list.specs.PageList.{pages, pagesOf, pagesAfter}
-use Rattle.page_list.specs.Tables.{pageWords, pageTable}
-use Rattle.page_list.specs.Scan.{bitsIn}
-use Rattle.page_list.specs.declared.PageRow.{PageRow}
-use Rattle.page_list.proofs.ScanLaws.{pages-snoc, next-rule}
+use Rattle.frames.proofs.Loops.{Reached, reached-none, reached-more, reached-accepted, reached-all}
+use Rattle.pages.specs.Pages.{pages}
+use Rattle.column_pages.specs.ColumnPages.{pagesOf, pagesAfter}
+use Rattle.column_pages.specs.Answers.{bitsIn}
+use Rattle.page_list.specs.Tables.{pageTable}
+use Rattle.rows.specs.Words.{pageWidth, pageWords}
+use Rattle.rows.specs.Tables.{columnRow}
+use Rattle.rows.specs.declared.PageRow.{PageRow}
+use Rattle.column_pages.proofs.ScanLaws.{pages-snoc, next-rule}
 
 -- how long the rows are
 
-row-length : (ps : List PageRow) → length (flat pageWords ps) ≡ 5 * length ps
+row-length : (ps : List PageRow) → length (flat pageWords ps) ≡ pageWidth * length ps
 unfolding flat
 row-length [] = refl
 row-length (p ∷ ps) = let e = row-length ps in omega arith
 
-table-length : (pss : List (List PageRow)) → length (pageTable pss) ≡ 5 * pagesOf pss
+table-length : (pss : List (List PageRow)) → length (pageTable pss) ≡ pageWidth * pagesOf pss
 unfolding flat pagesOf
 table-length [] = refl
 table-length (ps ∷ pss) =
@@ -67,15 +71,6 @@ module _ (head : ℕ) (r : List (List PageRow) → Rule (List PageRow)) (s : Lis
           (refl, rw (k .same) (omega arith))
       by (refused f) e = absurd (reached-accepted m a h e)
 
--- a part from a place to the end is lent, and put back
-pub rest-of : (from : ℕ) (table : List ℕ) → take (length table - from) (drop from table) ≡ drop from table
-rest-of from table = take-all (length table - from) (drop from table) (le-of-eq (length-drop from table))
-
-put-rest : (from : ℕ) (table part : List ℕ) → putMid from (length table - from) table part ≡ take from table ++ part
-put-rest from table part =
-    ap (λ (l : List ℕ). take from table ++ (part ++ l)) (drop-of-length-le (drop from table) (le-of-eq (length-drop from table)))
-    ∙ ap (λ (l : List ℕ). take from table ++ l) (append-nil part)
-
 -- more words after those that a table holds in front
 over-part : (words more old : List ℕ) (from : ℕ) → length words ≡ from → take from (over words old) ++ over more (drop from (over words old)) ≡ over (words ++ more) old
 over-part words more old from e =
@@ -88,7 +83,7 @@ pub record Laid (strict : Bool) (file : ℕ) (columns : List ℕ) (list n : ℕ)
   pub sum : total ≡ pagesOf (reached .done)
   pub rows : table ≡ over (pageTable (reached .done)) old
   pub long : length table ≡ length old
-  pub fits : 5 * total ≤ length table
+  pub fits : pageWidth * total ≤ length table
 
 module _ {strict : Bool} {file : ℕ} {columns : List ℕ} {list n : ℕ} {s : List ℕ} {start : ℕ} {old : List ℕ} where
   pub laid-none : Laid strict file columns list n s start 0 start 0 old old
@@ -96,16 +91,16 @@ module _ {strict : Bool} {file : ℕ} {columns : List ℕ} {list n : ℕ} {s : L
   laid-none = record { reached = reached-none; sum = refl; rows = refl; long = refl; fits = omega arith }
 
   module _ {i at total : ℕ} {table : List ℕ} (m : Laid strict file columns list n s start i at total old table) (h : i < n) where
-    next : pagesAfter strict file (bitsIn columns n) (m .reached .done) s at ≡ pages strict file i (getD columns (4 * i + 1) 0) total s at
+    next : pagesAfter strict file (bitsIn columns n) (m .reached .done) s at ≡ pages strict file i (columnRow columns i .bits % 2 ^ 16) total s at
     next = next-rule strict file columns n s at (m .reached .done) (m .reached .count) (m .sum) h
 
-    pub laid-count : {k p : ℕ} → found k p ≡ counted (pages strict file i (getD columns (4 * i + 1) 0) total s at) → length (rowsOf (pages strict file i (getD columns (4 * i + 1) 0) total s at)) ≡ k
-    laid-count e = counted-found (pages strict file i (getD columns (4 * i + 1) 0) total s at) (sym e) .1
+    pub laid-count : {k p : ℕ} → found k p ≡ counted (pages strict file i (columnRow columns i .bits % 2 ^ 16) total s at) → length (rowsOf (pages strict file i (columnRow columns i .bits % 2 ^ 16) total s at)) ≡ k
+    laid-count e = counted-found (pages strict file i (columnRow columns i .bits % 2 ^ 16) total s at) (sym e) .1
 
     module _ (a : accepted (items list (pagesAfter strict file (bitsIn columns n)) n [] s start) ≡ true)
-        (room : 5 * pagesOf (rowsOf (items list (pagesAfter strict file (bitsIn columns n)) n [] s start)) ≤ length old) where
-      pub laid-room : (accepted (pages strict file i (getD columns (4 * i + 1) 0) total s at) ≡ true)
-          × (5 * total + 5 * length (rowsOf (pages strict file i (getD columns (4 * i + 1) 0) total s at)) ≤ length table)
+        (room : pageWidth * pagesOf (rowsOf (items list (pagesAfter strict file (bitsIn columns n)) n [] s start)) ≤ length old) where
+      pub laid-room : (accepted (pages strict file i (columnRow columns i .bits % 2 ^ 16) total s at) ≡ true)
+          × (pageWidth * total + pageWidth * length (rowsOf (pages strict file i (columnRow columns i .bits % 2 ^ 16) total s at)) ≤ length table)
       laid-room =
           let k = next-pages list (pagesAfter strict file (bitsIn columns n)) s (m .reached) a h in
           let x = m .sum in
@@ -113,27 +108,27 @@ module _ {strict : Bool} {file : ℕ} {columns : List ℕ} {list n : ℕ} {s : L
           let z = ap (λ (v : Step (List PageRow)). length (rowsOf v)) next in
           (rw next at (k .0), omega arith)
 
-      pub laid-refused : {f : Fault} → refused f ≡ counted (pages strict file i (getD columns (4 * i + 1) 0) total s at) → ⊥
-      laid-refused e = omega (arith, leb-true 1 0 (rw (counted-refused (pages strict file i (getD columns (4 * i + 1) 0) total s at) (sym e)) at (laid-room .0)))
+      pub laid-refused : {f : Fault} → refused f ≡ counted (pages strict file i (columnRow columns i .bits % 2 ^ 16) total s at) → ⊥
+      laid-refused e = omega (arith, leb-true 1 0 (rw (counted-refused (pages strict file i (columnRow columns i .bits % 2 ^ 16) total s at) (sym e)) at (laid-room .0)))
 
-      pub laid-more : {k p : ℕ} (part : List ℕ) → found k p ≡ counted (pages strict file i (getD columns (4 * i + 1) 0) total s at)
-          → part ≡ over (flat pageWords (rowsOf (pages strict file i (getD columns (4 * i + 1) 0) total s at))) (take (length table - 5 * total) (drop (5 * total) table))
-          → length part ≡ length (take (length table - 5 * total) (drop (5 * total) table))
-          → Laid strict file columns list n s start (i + 1) p (total + k) old (putMid (5 * total) (length table - 5 * total) table part)
+      pub laid-more : {k p : ℕ} (part : List ℕ) → found k p ≡ counted (pages strict file i (columnRow columns i .bits % 2 ^ 16) total s at)
+          → part ≡ over (flat pageWords (rowsOf (pages strict file i (columnRow columns i .bits % 2 ^ 16) total s at))) (take (length table - pageWidth * total) (drop (pageWidth * total) table))
+          → length part ≡ length (take (length table - pageWidth * total) (drop (pageWidth * total) table))
+          → Laid strict file columns list n s start (i + 1) p (total + k) old (putMid (pageWidth * total) (length table - pageWidth * total) table part)
       unfolding reached-more
       laid-more {k} {p} part e stored kept =
-          let f = counted-found (pages strict file i (getD columns (4 * i + 1) 0) total s at) (sym e) in
-          let size = same-len-mid (5 * total) (length table - 5 * total) table part kept in
+          let f = counted-found (pages strict file i (columnRow columns i .bits % 2 ^ 16) total s at) (sym e) in
+          let size = same-len-mid (pageWidth * total) (length table - pageWidth * total) table part kept in
           let long = table-length (m .reached .done) in
           let sum = m .sum in
           record {
             reached = reached-more (m .reached) h (next ∙ f .0);
-            sum = let c = pages-snoc (m .reached .done) (rowsOf (pages strict file i (getD columns (4 * i + 1) 0) total s at)) in let d = f .1 in omega arith;
-            rows = put-rest (5 * total) table part
-                ∙ ap (λ (l : List ℕ). take (5 * total) table ++ l) (stored ∙ ap (over (flat pageWords (rowsOf (pages strict file i (getD columns (4 * i + 1) 0) total s at)))) (rest-of (5 * total) table))
-                ∙ ap (λ (t : List ℕ). take (5 * total) t ++ over (flat pageWords (rowsOf (pages strict file i (getD columns (4 * i + 1) 0) total s at))) (drop (5 * total) t)) (m .rows)
-                ∙ over-part (pageTable (m .reached .done)) (flat pageWords (rowsOf (pages strict file i (getD columns (4 * i + 1) 0) total s at))) old (5 * total) (omega arith)
-                ∙ ap (λ (w : List ℕ). over w old) (sym (table-snoc (m .reached .done) (rowsOf (pages strict file i (getD columns (4 * i + 1) 0) total s at))));
+            sum = let c = pages-snoc (m .reached .done) (rowsOf (pages strict file i (columnRow columns i .bits % 2 ^ 16) total s at)) in let d = f .1 in omega arith;
+            rows = put-rest (pageWidth * total) table part
+                ∙ ap (λ (l : List ℕ). take (pageWidth * total) table ++ l) (stored ∙ ap (over (flat pageWords (rowsOf (pages strict file i (columnRow columns i .bits % 2 ^ 16) total s at)))) (rest-of (pageWidth * total) table))
+                ∙ ap (λ (t : List ℕ). take (pageWidth * total) t ++ over (flat pageWords (rowsOf (pages strict file i (columnRow columns i .bits % 2 ^ 16) total s at))) (drop (pageWidth * total) t)) (m .rows)
+                ∙ over-part (pageTable (m .reached .done)) (flat pageWords (rowsOf (pages strict file i (columnRow columns i .bits % 2 ^ 16) total s at))) old (pageWidth * total) (omega arith)
+                ∙ ap (λ (w : List ℕ). over w old) (sym (table-snoc (m .reached .done) (rowsOf (pages strict file i (columnRow columns i .bits % 2 ^ 16) total s at))));
             long = size ∙ m .long;
             fits = let r = laid-room .1 in let d = f .1 in omega arith;
           }

@@ -1,104 +1,156 @@
 -- The reading of a payload beside a header: from its scan to the answer and the lent table.
 use Prim.Native.Nat.{ℕ, _*_, _/_, _≤_, _<_}
 use mathlib.Core.Path.{_≡_, sym, ap, _∙_}
-use mathlib.Core.Bool.{Bool, true, false}
+use mathlib.Core.Bool.{Bool, true}
 use mathlib.Core.List.{List, [], _∷_, map}
 use native.Mathlib.Omega.{arith}
 use borrow.Author.Tests.{le-leb, lt-leb}
-use lib.ListN.{length, take, length-map}
+use lib.ListN.{length, take, drop, replicate, length-append, length-drop, length-map}
 use lib.Seq.{take-at}
 use Rattle.numbers.specs.Rows.{over}
 use Rattle.wire.specs.declared.Fault.{Fault}
-use Rattle.wire.specs.Reading.{Step, found, refused, mapped, accepted, rowsOf}
-use Rattle.wire.specs.Outcome.{acceptedWith}
-use Rattle.wire.specs.Envelope.{whole, opened, envelope, versioned}
-use Rattle.wire.proofs.Laws.{Mapped, mapped-found, mapped-refused, Closed, closed-found}
-use Rattle.wire.proofs.Loops.{list-passed}
+use Rattle.wire.specs.declared.NumberStep.the-variants.{Found, Refused as Missed}
+use Rattle.wire.specs.Reading.{Step, found, refused, accepted, rowsOf}
+use Rattle.outcome.specs.Outcome.{acceptedWith}
+use Rattle.envelope.specs.Envelope.{Versions, whole, opened, envelope, versioned}
+use Rattle.frames.proofs.Laws.{Closed, closed-found}
+use Rattle.frames.proofs.Loops.{list-passed}
 use Rattle.header.specs.Header.{Lists}
 use Rattle.header.specs.Beside.{Beside, read, refusal, inEnvelope}
-use Rattle.records.specs.declared.ColumnRow.{ColumnRow}
-use Rattle.page_list.specs.PageList.{bitsOf, pagesOf, pagesAfter, perColumn, payload, elementsOf, totals, summed}
-use Rattle.page_list.specs.Tables.{pageTable, answer, reported, written, Answered}
-use Rattle.page_list.specs.Scan.{bitsIn, ElementSums, SumsOf, TotalsAre, SchemaOf}
-use Rattle.page_list.specs.declared.PageRow.{PageRow}
+use Rattle.rows.specs.Words.{mostFields, mostColumns, pageWidth}
+use Rattle.rows.specs.Tables.{columnsIn}
+use Rattle.rows.specs.declared.FieldNumber.{FieldNumber}
+use Rattle.rows.specs.declared.PageRow.{PageRow}
+use Rattle.totals.specs.Totals.{totals}
+use Rattle.totals.specs.declared.Totals.{Totals}
+use Rattle.totals.specs.declared.Totals.the-variants.{Agree, Differ}
+use Rattle.pages.specs.Pages.{elementsOf}
+use Rattle.column_pages.specs.ColumnPages.{bitsOf, pagesOf, pagesAfter, perColumn, payload}
+use Rattle.column_pages.specs.Answers.{bitsIn, sumsOf}
+use Rattle.column_pages.specs.declared.Sums.{Sums}
+use Rattle.column_pages.proofs.ColumnLaws.{bits-length, count-passes}
+use Rattle.page_list.specs.PageList.{totalFault, totalsOf, summed}
+use Rattle.page_list.specs.Tables.{pageTable, answer, written, Answered}
+use Rattle.page_list.specs.Schema.{SchemaOf}
 use Rattle.page_list.specs.declared.PageListAnswer.the-variants.{Accepted, Refused}
-use Rattle.page_list.proofs.ColumnLaws.{bits-length, count-passes}
 
 -- a refusal changes no table
-pub beside-refused : {x : Beside (List (List PageRow))} {k r : ℕ} (p : List ℕ) → x ≡ refusal k r → Answered x p p (Refused k r)
-unfolding answer written reported
+pub beside-refused : {x : Beside (List (List PageRow))} {k : ℕ} {f : Fault} (p : List ℕ) → x ≡ refusal k f → Answered x p p (Refused k (f .number))
+unfolding answer written
 beside-refused p e = record { answers = rw e; reports = rw e; pagesAre = rw e }
 
-module _ (strict : Bool) (file entries : ℕ) (s parents flags table : List ℕ) (n : ℕ) (l : Lists) (o : SchemaOf l parents flags table n) where
-  same : whole strict (payload file (bitsOf (l .columns)) strict) s 4 ≡ whole strict (payload file (bitsIn table n) strict) s 4
-  same = ap (λ (cs : List ColumnRow). whole strict (payload file (bitsOf cs) strict) s 4) (sym (o .columnsAre))
+-- a table that holds words in front is as long as it was
+pub over-length : (words old : List ℕ) → length words ≤ length old → length (over words old) ≡ length old
+over-length words old h = omega (arith, length-append words (drop (length words) old), length-drop (length words) old)
 
-  pub read-refused : {g : Fault} (p : List ℕ) → refused g ≡ mapped pagesOf (whole strict (payload file (bitsIn table n) strict) s 4)
+-- what a scan found, or what it refused
+record Scanned (x : Step (List (List PageRow))) (r : Sums) (k q : ℕ) : Type 0 where
+  value : List (List PageRow)
+  was : x ≡ found value q
+  count : k ≡ pagesOf value
+  elements : r .elements ≡ over (map elementsOf value) (replicate mostColumns 0)
+
+scan-found : (x : Step (List (List PageRow))) {r : Sums} {k q : ℕ} → r ≡ sumsOf x → r .pages ≡ Found k q → Scanned x r k q
+scan-found (found pss p) {r} {k} {q} is e =
+    let g : Found (pagesOf pss) p ≡ Found k q = sym (ap (λ (y : Sums). y .pages) is) ∙ e in
+    let a : pagesOf pss ≡ k = cc in
+    let b : p ≡ q = cc in
+    record { value = pss; was = ap (found pss) b; count = sym a; elements = ap (λ (y : Sums). y .elements) is }
+scan-found (refused f) {r} {k} {q} is e =
+    let g : Missed f ≡ Found k q = sym (ap (λ (y : Sums). y .pages) is) ∙ e in
+    let z : _≡_ {A = ℕ} 0 1 = cc in
+    absurd (omega arith)
+
+scan-refused : (x : Step (List (List PageRow))) {r : Sums} {f : Fault} → r ≡ sumsOf x → r .pages ≡ Missed f → x ≡ refused f
+scan-refused (found pss p) {r} {f} is e =
+    let g : Found (pagesOf pss) p ≡ Missed f = sym (ap (λ (y : Sums). y .pages) is) ∙ e in
+    let z : _≡_ {A = ℕ} 0 1 = cc in
+    absurd (omega arith)
+scan-refused (refused h) {r} {f} is e =
+    let g : Missed h ≡ Missed f = sym (ap (λ (y : Sums). y .pages) is) ∙ e in
+    let same : h ≡ f = cc in
+    ap (λ (x : Fault). refused x) same
+
+module _ (strict : Bool) (file : ℕ) (s parents flags table : List ℕ) (n : ℕ) (l : Lists) (o : SchemaOf l parents flags table n) where
+  same : whole strict (payload file (bitsOf (l .columns)) strict) s 4 ≡ whole strict (payload file (bitsIn table n) strict) s 4
+  same = ap (λ (bits : List ℕ). whole strict (payload file bits strict) s 4) (sym (o .bitsAre))
+
+  pub read-refused : (entries : ℕ) {r : Sums} {g : Fault} (p : List ℕ) → r ≡ sumsOf (whole strict (payload file (bitsIn table n) strict) s 4) → r .pages ≡ Missed g
       → Answered (inEnvelope 3 (summed entries l (whole strict (payload file (bitsOf (l .columns)) strict) s 4))) p p (Refused 3 (g .number))
   unfolding summed
-  read-refused p e = beside-refused p (ap (λ (x : Step (List (List PageRow))). inEnvelope 3 (summed entries l x)) (same ∙ mapped-refused pagesOf (whole strict (payload file (bitsIn table n) strict) s 4) e))
+  read-refused entries p is e =
+      beside-refused p (ap (λ (x : Step (List (List PageRow))). inEnvelope 3 (summed entries l x)) (same ∙ scan-refused (whole strict (payload file (bitsIn table n) strict) s 4) is e))
 
 -- a payload that was found by a scan
-module _ (strict : Bool) (file : ℕ) (s table : List ℕ) (n : ℕ) {k q : ℕ} (e : found k q ≡ mapped pagesOf (whole strict (payload file (bitsIn table n) strict) s 4)) where
-  m : Mapped pagesOf (whole strict (payload file (bitsIn table n) strict) s 4) k q
-  m = mapped-found pagesOf (whole strict (payload file (bitsIn table n) strict) s 4) e
+module _ (strict : Bool) (file : ℕ) (s table : List ℕ) (n : ℕ) {r : Sums} (is : r ≡ sumsOf (whole strict (payload file (bitsIn table n) strict) s 4)) {k q : ℕ} (e : r .pages ≡ Found k q) where
+  m : Scanned (whole strict (payload file (bitsIn table n) strict) s 4) r k q
+  m = scan-found (whole strict (payload file (bitsIn table n) strict) s 4) is e
 
   stood : Closed (payload file (bitsIn table n) strict s 4) (m .value)
   stood = closed-found (λ g. g) strict (length s) (payload file (bitsIn table n) strict s 4) (m .was)
 
-  count : length (m .value) ≡ n
+  -- it has an item for each column
+  passed : (length (m .value) ≤ mostColumns) × (length (m .value) ≡ n)
   unfolding payload
-  count = count-passes (length (bitsIn table n)) (length (m .value)) (list-passed strict (perColumn (length (bitsIn table n))) (λ _. pagesAfter strict file (bitsIn table n)) s 4 (stood .was)) .1 ∙ bits-length table n
+  passed =
+      let c = count-passes (length (bitsIn table n)) (length (m .value)) (list-passed strict (perColumn (length (bitsIn table n))) (λ _. pagesAfter strict file (bitsIn table n)) s 4 (stood .was)) in
+      (c .0, c .1 ∙ bits-length table n)
+
+  pub columns-inside : n ≤ length (r .elements)
+  columns-inside =
+      let c = passed in
+      let k = length-map (m .value) elementsOf in
+      let long = ap length (m .elements) ∙ over-length (map elementsOf (m .value)) (replicate mostColumns 0) (omega arith) in
+      omega arith
 
   -- it can be filled into a table with room
-  pub fill-ready : {words : ℕ} → k ≤ words / 5
-      → (accepted (payload file (bitsIn table n) strict s 4) ≡ true) × (5 * pagesOf (rowsOf (payload file (bitsIn table n) strict s 4)) ≤ words)
-  fill-ready h = let a = m .is in (rw (stood .was), rw (stood .was) (omega arith))
+  pub fill-ready : {words : ℕ} → k ≤ words / pageWidth
+      → (accepted (payload file (bitsIn table n) strict s 4) ≡ true) × (pageWidth * pagesOf (rowsOf (payload file (bitsIn table n) strict s 4)) ≤ words)
+  fill-ready h = let a = m .count in (rw (stood .was), rw (stood .was) (omega arith))
 
-  module _ {old sums : List ℕ} (sum : ElementSums (whole strict (payload file (bitsIn table n) strict) s 4) old sums) where
-    sums-of : SumsOf (m .value) n sums
-    sums-of =
-        let a : sums ≡ over (map elementsOf (m .value)) old = rw (m .was) at (sum .sumsAre (rw (m .was))) in
-        ap (take n) a ∙ take-at (map elementsOf (m .value)) _ n (length-map (m .value) elementsOf ∙ count)
+  sums-are : take n (r .elements) ≡ map elementsOf (m .value)
+  sums-are = ap (take n) (m .elements) ∙ take-at (map elementsOf (m .value)) _ n (length-map (m .value) elementsOf ∙ passed .1)
 
-    module _ (entries : ℕ) (parents flags : List ℕ) (l : Lists) (o : SchemaOf l parents flags table n) where
-      agree : {t : Bool} → TotalsAre entries parents flags table n sums t → totals entries (l .columns) (m .value) 0 (l .fields) ≡ t
-      agree t = sym (t .says (l .fields) (m .value) (o .parentsAre) (o .flagsAre) sums-of ∙ ap (λ (cs : List ColumnRow). totals entries cs (m .value) 0 (l .fields)) (o .columnsAre))
+  module _ (entries : ℕ) (parents flags : List ℕ) (l : Lists) (o : SchemaOf l parents flags table n)
+      {t : Totals} (told : t ≡ totals entries (columnsIn table n) (take n (r .elements)) 0 (take mostFields parents) flags) where
+    outcome : totalsOf entries l (m .value) ≡ t
+    outcome = sym (told ∙ (λ j. totals entries (o .columnsAre j) (sums-are j) 0 (o .parentsAre j) (o .flagsAre j)))
 
-      is : whole strict (payload file (bitsOf (l .columns)) strict) s 4 ≡ found (m .value) q
-      is = same strict file entries s parents flags table n l o ∙ m .was
+    stands : whole strict (payload file (bitsOf (l .columns)) strict) s 4 ≡ found (m .value) q
+    stands = same strict file s parents flags table n l o ∙ m .was
 
-      pub read-wrong : (p : List ℕ) → TotalsAre entries parents flags table n sums false
-          → Answered (inEnvelope 3 (summed entries l (whole strict (payload file (bitsOf (l .columns)) strict) s 4))) p p (Refused 3 19)
+    pub read-wrong : (p : List ℕ) {f : FieldNumber} → t ≡ Differ f
+        → Answered (inEnvelope 3 (summed entries l (whole strict (payload file (bitsOf (l .columns)) strict) s 4))) p p (Refused 3 19)
+    unfolding summed
+    read-wrong p {f} d = beside-refused {f = totalFault (f .0)} p (rw (stands, outcome, d))
+
+    module _ (a : t ≡ Agree) where
+      right : inEnvelope 3 (summed entries l (whole strict (payload file (bitsOf (l .columns)) strict) s 4)) ≡ read (m .value)
       unfolding summed
-      read-wrong p t = beside-refused p (rw (is, agree t))
+      right = rw (stands, outcome, a)
 
-      module _ (t : TotalsAre entries parents flags table n sums true) where
-        right : inEnvelope 3 (summed entries l (whole strict (payload file (bitsOf (l .columns)) strict) s 4)) ≡ read (m .value)
-        unfolding summed
-        right = rw (is, agree t)
+      pub read-short : (p : List ℕ) → length p / pageWidth < k
+          → Answered (inEnvelope 3 (summed entries l (whole strict (payload file (bitsOf (l .columns)) strict) s 4))) p p (Refused 3 20)
+      unfolding answer written
+      read-short p h =
+          let c = m .count in
+          let short = lt-leb (pagesOf (m .value)) (length p / pageWidth) (omega arith) in
+          record { answers = rw (right, short); reports = rw (right, short); pagesAre = rw (right, short) }
 
-        pub read-short : (p : List ℕ) → length p / 5 < k → Answered (inEnvelope 3 (summed entries l (whole strict (payload file (bitsOf (l .columns)) strict) s 4))) p p (Refused 3 20)
-        unfolding answer written reported
-        read-short p h =
-            let a = m .is in
-            let short = lt-leb (pagesOf (m .value)) (length p / 5) (omega arith) in
-            record { answers = rw (right, short); reports = rw (right, short); pagesAre = rw (right, short) }
-
-        pub read-all : (p p′ : List ℕ) → k ≤ length p / 5 → p′ ≡ over (pageTable (rowsOf (payload file (bitsIn table n) strict s 4))) p
-            → Answered (inEnvelope 3 (summed entries l (whole strict (payload file (bitsOf (l .columns)) strict) s 4))) p p′ (Accepted k)
-        unfolding answer written reported
-        read-all p p′ h stored =
-            let a = m .is in
-            let room = le-leb (pagesOf (m .value)) (length p / 5) (omega arith) in
-            record { answers = rw (right, room) (ap Accepted a); reports = rw (right, room) (ap (λ (x : ℕ). acceptedWith (x ∷ [])) a); pagesAre = rw (right, room) (rw (stood .was) at stored) }
+      pub read-all : (p p′ : List ℕ) → k ≤ length p / pageWidth → p′ ≡ over (pageTable (rowsOf (payload file (bitsIn table n) strict s 4))) p
+          → Answered (inEnvelope 3 (summed entries l (whole strict (payload file (bitsOf (l .columns)) strict) s 4))) p p′ (Accepted k)
+      unfolding answer written
+      read-all p p′ h stored =
+          let c = m .count in
+          let room = le-leb (pagesOf (m .value)) (length p / pageWidth) (omega arith) in
+          record { answers = rw (right, room) (ap Accepted c); reports = rw (right, room) (ap (λ (x : ℕ). acceptedWith (x ∷ [])) c); pagesAre = rw (right, room) (rw (stood .was) at stored) }
 
 -- an envelope
 
-pub envelope-open : (file : ℕ) (bits e : List ℕ) {strict : Bool} {stop : ℕ} → opened 1 e ≡ found strict stop → envelope 1 (payload file bits) e ≡ whole strict (payload file bits strict) (take stop e) 4
+pub envelope-open : (file : ℕ) (bits e : List ℕ) {v : Versions} {stop : ℕ} → opened 1 e ≡ found v stop → envelope 1 (payload file bits) e ≡ whole (v .strict) (payload file bits (v .strict)) (take stop e) 4
 unfolding versioned
 envelope-open file bits e o = rw o
 
-pub envelope-refused : (file : ℕ) (bits e : List ℕ) (entries : ℕ) (l : Lists) {g : Fault} → opened 1 e ≡ refused g → inEnvelope 3 (summed entries l (envelope 1 (payload file bits) e)) ≡ refusal 3 (g .number)
+pub envelope-refused : (file : ℕ) (bits e : List ℕ) (entries : ℕ) (l : Lists) {g : Fault} → opened 1 e ≡ refused g → inEnvelope 3 (summed entries l (envelope 1 (payload file bits) e)) ≡ refusal 3 g
 unfolding versioned summed
 envelope-refused file bits e entries l o = rw o

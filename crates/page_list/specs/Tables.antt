@@ -7,11 +7,13 @@ use lib.ListN.{length}
 use lib.Dec.{leb}
 use Rattle.numbers.specs.Choice.{pick}
 use Rattle.numbers.specs.Rows.{flat, over}
-use Rattle.wire.specs.Outcome.{Outcome, acceptedWith, refusedIn}
-use Rattle.header.specs.Tables.{headerOf, bit}
+use Rattle.outcome.specs.Outcome.{Outcome, acceptedWith, refusedIn}
+use Rattle.header.specs.Tables.{headerOf}
+use Rattle.rows.specs.Words.{pageWidth, pageWords}
 use Rattle.header.specs.Beside.{Beside, read, refusal, beside}
-use Rattle.page_list.specs.PageList.{pagesOf, pageListOf}
-use Rattle.page_list.specs.declared.PageRow.{PageRow}
+use Rattle.column_pages.specs.ColumnPages.{pagesOf}
+use Rattle.page_list.specs.PageList.{pageListOf}
+use Rattle.rows.specs.declared.PageRow.{PageRow}
 use Rattle.page_list.specs.declared.PageListAnswer.{PageListAnswer}
 use Rattle.page_list.specs.declared.PageListAnswer.the-variants.{Accepted, Refused}
 
@@ -19,37 +21,32 @@ use Rattle.page_list.specs.declared.PageListAnswer.the-variants.{Accepte
 unfoldable pub pageListBeside : List ℕ → List ℕ → ℕ → ℕ → Beside (List (List PageRow))
 pageListBeside header list entries file = beside 3 (λ h. pageListOf h entries file list) (headerOf header)
 
--- a row of the lent table: 5 words
-abbrev pub pageWords : PageRow → List ℕ
-pageWords p = p .column ∷ p .elements ∷ bit (p .checksum) ∷ p .size ∷ p .offset ∷ []
-
 -- the words of the table: the pages of each column, column by column
 abbrev pub pageTable : List (List PageRow) → List ℕ
 pageTable = flat (flat pageWords)
 
 -- a table of n words has room for the rows
 abbrev pub roomFor : ℕ → List (List PageRow) → Bool
-roomFor n pss = leb (pagesOf pss) (n / 5)
+roomFor n pss = leb (pagesOf pss) (n / pageWidth)
 
 -- the whole answer, for a lent table of n words
 unfoldable pub answer : ℕ → Beside (List (List PageRow)) → PageListAnswer
 answer n (read pss) = pick (roomFor n pss) (Accepted (pagesOf pss)) (Refused 3 20)
-answer n (refusal k r) = Refused k r
+answer n (refusal k f) = Refused k (f .number)
 
 -- the answer in document 01's terms: the envelope and the number of a refusal, and the count of pages
 abbrev pub outcomeOf : PageListAnswer → Outcome
 outcomeOf (Accepted pages) = acceptedWith (pages ∷ [])
 outcomeOf (Refused k r) = refusedIn k r 1
 
--- what the answer reports, for a lent table of n words
-unfoldable pub reported : ℕ → Beside (List (List PageRow)) → Outcome
-reported n (read pss) = pick (roomFor n pss) (acceptedWith (pagesOf pss ∷ [])) (refusedIn 3 20 1)
-reported n (refusal k r) = refusedIn k r 1
+-- the outcome that is due, for a lent table of n words
+abbrev pub reported : ℕ → Beside (List (List PageRow)) → Outcome
+reported n x = outcomeOf (answer n x)
 
 -- the lent table after the call: the words in front where the page list is accepted, else as it was
 unfoldable pub written : ℕ → List ℕ → Beside (List (List PageRow)) → List ℕ
 written n old (read pss) = pick (roomFor n pss) (over (pageTable pss) old) old
-written n old (refusal k r) = old
+written n old (refusal k f) = old
 
 -- all that a call leaves, for a page list read beside its header and a lent table
 pub record Answered (x : Beside (List (List PageRow))) (p₀ p : List ℕ) (r : PageListAnswer) : Type 0 where

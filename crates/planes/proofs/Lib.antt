@@ -1,5 +1,4 @@
 pub mod Filling
-pub mod Parts
 pub mod Joined
 pub mod Joins
 pub mod Words

@@ -1,4 +1,3 @@
 pub mod Walk
 pub mod Held
-pub mod Numbers
 pub mod TextLaws

@@ -1,8 +1,8 @@
 -- A string that was read lies in the envelope, and its characters are the bytes that stand there.
-use Prim.Native.Nat.{ℕ, _+_, _≤_}
+use Prim.Native.Nat.{ℕ, zero, suc, _+_, _≤_}
 use mathlib.Core.Path.{_≡_, refl}
 use mathlib.Core.Bool.{Bool, true, false}
-use mathlib.Core.List.{List}
+use mathlib.Core.List.{List, [], _∷_}
 use native.Mathlib.Omega.{arith}
 use lib.Dec.{leb}
 use lib.ListN.{length, take, drop}
@@ -10,9 +10,10 @@ use borrow.Author.Tests.{leb-true, le-leb}
 use Rattle.numbers.specs.Choice.{pick}
 use Rattle.numbers.specs.Numbers.{little}
 use Rattle.wire.specs.declared.Kind.the-variants.{Text as TextKind}
-use Rattle.wire.specs.declared.Text.{Text}
-use Rattle.wire.specs.Reading.{Step, found, refused, fault, ascii, string}
-use Rattle.wire.proofs.Cut.{cut-length}
+use Rattle.rows.specs.declared.Text.{Text}
+use Rattle.wire.specs.Reading.{Step, found, refused, fault}
+use Rattle.text.specs.Strings.{ascii, string}
+use Rattle.numbers.proofs.Parts.{cut-length}
 use Rattle.reader.specs.Text.{textOf, TextInside, StringInside}
 
 pub text-inside : TextInside

@@ -5,8 +5,9 @@ use mathlib.Core.List.{List, []}
 use lib.ListN.{length, take, drop}
 use lib.Dec.{leb}
 use Rattle.numbers.specs.Choice.{pick}
-use Rattle.wire.specs.Reading.{found, string}
-use Rattle.wire.specs.declared.Text.{Text}
+use Rattle.wire.specs.Reading.{found}
+use Rattle.text.specs.Strings.{string}
+use Rattle.rows.specs.declared.Text.{Text}
 
 -- none where the string does not lie in the envelope
 unfoldable pub textOf : List ℕ → ℕ → ℕ → List ℕ

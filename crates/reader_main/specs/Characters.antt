@@ -2,7 +2,7 @@
 use Prim.Native.Nat.{ℕ}
 use mathlib.Core.List.{List, []}
 use Rattle.wire.specs.Reading.{Step, found, refused}
-use Rattle.wire.specs.declared.Text.{Text}
+use Rattle.rows.specs.declared.Text.{Text}
 use Rattle.reader.specs.Text.{textOf}
 
 abbrev pub charactersOf : List ℕ → Step Text → List ℕ

@@ -1,16 +1,16 @@
 // Writes the name of a header, and its description, which is empty. The functions here call `reader::read_text`, whose parameters are
 // plain, so none of them needs a walk.
 ghost use mathlib.Core.Path.{_≡_};
-ghost use Rattle.wire.specs.Reading.{string};
+ghost use Rattle.text.specs.Strings.{string};
 ghost use Rattle.reader_main.specs.Characters.{charactersOf};
 
 // The characters of the string at a place, none where it is refused.
 fn string_text(envelope: &[u8], at: usize) -> &[u8]
     ensures { λ r. ⌜ now r ≡ charactersOf (now (envelope .entry)) (string (now (envelope .entry)) at) ⌝ }
 {
-    match wire::string_at(envelope, at) {
-        wire::TextStep::Found(text, _) => reader::read_text(envelope, text.place, text.len),
-        wire::TextStep::Refused(_) => &envelope[..0],
+    match text::string_at(envelope, at) {
+        text::TextStep::Found(text, _) => reader::read_text(envelope, text.place, text.len),
+        text::TextStep::Refused(_) => &envelope[..0],
     }
 }
 

@@ -14,9 +14,9 @@ use Rattle.wire.specs.declared.Kind.the-variants.{Number}
 use Rattle.wire.specs.Reading.{Step, found, refused, Rule, _>>=_, give, fault, number, judged, tested, below, listed}
 use Rattle.wire.proofs.Laws.{never, bound}
 use Rattle.records.specs.Records.{fieldHead, fieldTexts, field, column, repetition, sized}
-use Rattle.records.specs.declared.FieldHead.{FieldHead}
-use Rattle.records.specs.declared.FieldRow.{FieldRow}
-use Rattle.records.specs.declared.ColumnRow.{ColumnRow}
+use Rattle.rows.specs.declared.FieldHead.{FieldHead}
+use Rattle.rows.specs.declared.FieldRow.{FieldRow}
+use Rattle.rows.specs.declared.ColumnRow.{ColumnRow}
 
 -- a number that was found below a limit
 pub below-limit : (limit at : ℕ) (x : Step ℕ) {v p : ℕ} → judged (below limit) at x ≡ found v p → v < limit

@@ -1,4 +1,1 @@
 pub mod Records
-pub mod Words
-pub mod Answers
-pub mod FieldAnswers

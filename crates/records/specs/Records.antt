@@ -5,15 +5,16 @@ use mathlib.Core.Bool.{Bool, true}
 use lib.ListN.{length, getD}
 use lib.Dec.{ltb, eqb}
 use Rattle.numbers.specs.Choice.{pick, both}
-use Rattle.wire.specs.Reading.{Rule, _>>=_, _>>_, give, tested, unless, below, listed, number, string}
-use Rattle.wire.specs.Features.{features}
+use Rattle.wire.specs.Reading.{Rule, _>>=_, _>>_, give, tested, unless, below, listed, number}
+use Rattle.text.specs.Strings.{string}
+use Rattle.envelope.specs.Features.{features}
 use Rattle.column_type.specs.Types.{known, widthOf}
 use Rattle.records.specs.declared.HeaderTexts.{HeaderTexts}
-use Rattle.records.specs.declared.FieldHead.{FieldHead}
-use Rattle.records.specs.declared.FieldTexts.{FieldTexts}
-use Rattle.records.specs.declared.FieldRow.{FieldRow}
-use Rattle.records.specs.declared.ColumnRow.{ColumnRow}
-use Rattle.records.specs.declared.AliasRow.{AliasRow}
+use Rattle.rows.specs.declared.FieldHead.{FieldHead}
+use Rattle.rows.specs.declared.FieldTexts.{FieldTexts}
+use Rattle.rows.specs.declared.FieldRow.{FieldRow}
+use Rattle.rows.specs.declared.ColumnRow.{ColumnRow}
+use Rattle.rows.specs.declared.AliasRow.{AliasRow}
 
 abbrev pub repetitive : ℕ → Bool
 repetitive flags = eqb (flags % 2) 1

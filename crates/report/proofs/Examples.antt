@@ -4,12 +4,14 @@ use borrow.Author.Tests.{lt-leb}
 use lib.ListN.{length}
 use Rattle.numbers.specs.Numbers.{little}
 use Rattle.checksum.specs.Crc.{shifted, bits, byte, fold, crc32}
-use Rattle.wire.specs.Reading.{listOf, items, number, judged, string, ascii, frameSize, listStop, countJudged, inItem}
-use Rattle.wire.specs.Envelope.{versioned, opened}
-use Rattle.wire.specs.Features.{features}
+use Rattle.wire.specs.Reading.{number, judged, inItem}
+use Rattle.text.specs.Strings.{string, ascii}
+use Rattle.frames.specs.Frames.{listOf, items, frameSize, listStop, countJudged}
+use Rattle.envelope.specs.Envelope.{versioned, opened}
+use Rattle.envelope.specs.Features.{features}
 use Rattle.header.specs.Header.{columnsAfter, aliasesAfter, lists, payload}
 use Rattle.records.specs.Records.{texts}
-use Rattle.header.specs.Parents.{allReach}
+use Rattle.parents.specs.Parents.{allReach}
 use Rattle.header.specs.Tables.{headerOf, chained}
 use Rattle.report.specs.Line.{decimalBy, acceptedLine, refusedLine, longerLine}
 use Rattle.report.specs.Program.{verdict, printed}

@@ -2,4 +2,3 @@ pub mod LineLaws
 pub mod DecimalLaws
 pub mod RoomLaws
 pub mod Examples
-pub mod NumberLaws

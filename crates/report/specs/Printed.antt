@@ -1,10 +1,9 @@
 -- Theorems on what the program prints.
-use Prim.Native.Nat.{ℕ, _≤_, _<_}
+use Prim.Native.Nat.{ℕ, _<_}
 use mathlib.Core.List.{List, [], _∷_}
 use mathlib.Core.Path.{_≡_}
 use lib.ListN.{length}
-use Rattle.wire.specs.Reading.{Step, refused}
-use Rattle.wire.specs.declared.Fault.{Fault}
+use Rattle.wire.specs.Reading.{Step}
 use Rattle.header.specs.Header.{Header}
 use Rattle.header.specs.Tables.{headerOf, answer}
 use Rattle.header.specs.declared.HeaderAnswer.{HeaderAnswer}
@@ -19,10 +18,6 @@ fullAnswer = answer 7680 4096 512
 -- full tables have room for every header that is accepted
 abbrev pub FullTablesSuffice : Type 0
 FullTablesSuffice = (e : List ℕ) → fullAnswer (headerOf e) ≡ verdict (headerOf e)
-
--- a header is refused with one of the numbers up to 15
-abbrev pub HeaderNumbers : Type 0
-HeaderNumbers = (e : List ℕ) (f : Fault) → headerOf e ≡ refused f → f .number ≤ 15
 
 -- so the number for too little room is never answered
 abbrev pub NeverTwenty : Type 0

@@ -25,7 +25,7 @@ pub fn check_header(input: &[u8]) -> Line
     let mut fields = [0u64; 7680];
     let mut columns = [0u64; 4096];
     let mut aliases = [0u64; 512];
-    header_line(header::read_header(input, &mut fields, &mut columns, &mut aliases))
+    header_line(header_reader::read_header(input, &mut fields, &mut columns, &mut aliases))
 }
 
 // The line for the answer of the header's reader.

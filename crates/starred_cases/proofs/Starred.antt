@@ -1,12 +1,11 @@
 -- The starred cases hold, by computing the whole table.
-use mathlib.Core.List.{map}
 use mathlib.Core.Path.{refl}
 use Rattle.numbers.specs.Numbers.{little}
 use Rattle.column_type.specs.Types.{widths, known, widthOf, split, delta, zigzag}
-use Rattle.wire.specs.Reading.{recordOf, listOf, items, frameSize, recordHead, listStop, countJudged}
-use Rattle.page.specs.Layout.{deltas, zigzagged, planes}
-use Rattle.page.specs.Page.{bytes}
-use Rattle.page.specs.Signed.{toBits, fromBits, toZigzag}
+use Rattle.frames.specs.Frames.{recordOf, listOf, items, frameSize, recordHead, listStop, countJudged}
+use Rattle.coding.specs.Layout.{deltas, zigzagged, planes}
+use Rattle.page_rules.specs.Page.{bytes}
+use Rattle.coding.specs.Signed.{toBits, fromBits, toZigzag}
 use Rattle.starred_cases.specs.Starred.{hold, StarredCases}
 
 pub starred-cases : StarredCases

@@ -6,10 +6,11 @@ use mathlib.Core.Path.{_≡_}
 use lib.IntN.{ℤ, pos, negsuc}
 use lib.Dec.{eqb}
 use Rattle.numbers.specs.Choice.{both}
-use Rattle.wire.specs.Reading.{Step, found, refused, Rule, give, recordOf, listOf, atMost}
-use Rattle.page.specs.Layout.{deltas, zigzagged, planes}
-use Rattle.page.specs.Page.{bytes}
-use Rattle.page.specs.Signed.{toBits}
+use Rattle.wire.specs.Reading.{Step, found, refused, Rule, give}
+use Rattle.frames.specs.Frames.{recordOf, listOf, atMost}
+use Rattle.coding.specs.Layout.{deltas, zigzagged, planes}
+use Rattle.page_rules.specs.Page.{bytes}
+use Rattle.coding.specs.Signed.{toBits}
 
 -- what a step says: 0 and the place after it, or the number of the refusal
 abbrev pub says : {A : Type 0} → Step A → List ℕ

@@ -1,7 +1,7 @@
 -- The law of envelopes: those that are accepted are the renderings of right trees.
 use Prim.Native.Nat.{ℕ, _+_, _-_, _^_, _≤_, _<_}
 use mathlib.Core.List.{List, [], _∷_, _++_, append-nil}
-use mathlib.Core.Bool.{Bool, true}
+use mathlib.Core.Bool.{true}
 use mathlib.Core.Path.{_≡_, refl, sym, ap, _∙_, subst, subst₂}
 use native.Mathlib.Omega.{arith}
 use lib.Dec.{leb, eqb}
@@ -11,13 +11,15 @@ use lib.Seq.{take-append-seam}
 use Rattle.numbers.specs.Choice.{both}
 use Rattle.numbers.specs.Numbers.{little}
 use Rattle.checksum.specs.Crc.{crc32}
-use Rattle.wire.specs.Reading.{Step, found, refused, Rule, closed}
-use Rattle.wire.specs.Envelope.{versioned, versionOf, opened, enclosed, ceiling, strictOf, checksumOf}
+use Rattle.wire.specs.Reading.{Step, found, refused, Rule}
+use Rattle.frames.specs.Frames.{closed}
+use Rattle.envelope.specs.Envelope.{Versions, versionsOf, versioned, versionOf, opened, enclosed, ceiling, strictOf, checksumOf}
 use Rattle.tree.specs.Bytes.{spelled, Stands, Bytes}
 use Rattle.tree.specs.Shape.{Carrier, Shape, Read, Written, Law}
 use Rattle.tree.specs.EnvelopeTree.{Enveloped, unsummed, sealed, renderEnvelope, Right}
 use Rattle.tree.proofs.Place.{length-spelled, stands-left, stands-right, stands-join, part-stands, little-spelled, little-bound, spelled-little, container-long}
-use Rattle.tree.proofs.Simple.{pick-found, both-true}
+use Rattle.tree.proofs.Simple.{pick-found}
+use Rattle.numbers.proofs.Choice.{both-true}
 use Rattle.tree.proofs.Frames.{closed-complete, Closed, closed-sound, spare-of, spare-long, spare-stands, spare-none}
 
 crc-bound : (bs : List ℕ) → crc32 bs < 2 ^ 32
@@ -34,8 +36,8 @@ record Opened (supported : ℕ) (s : List ℕ) (n : ℕ) : Type 0 where
   order : little 2 s 2 ≤ little 2 s 0
   read : little 2 s 2 ≤ supported
 
-opens : {A : Type 0} (supported : ℕ) (r : ℕ → Bool → Rule A) (s : List ℕ) (n : ℕ) → Opened supported s n
-    → versioned supported r s ≡ closed (strictOf s) n (r (versionOf s) (strictOf s) (take n s) 4)
+opens : {A : Type 0} (supported : ℕ) (r : Versions → Rule A) (s : List ℕ) (n : ℕ) → Opened supported s n
+    → versioned supported r s ≡ closed (strictOf s) n (r (versionsOf s) (take n s) 4)
 unfolding versioned opened
 opens supported r s n o =
     let n-is : length s - 4 ≡ n = omega (arith, o .long) in
@@ -46,21 +48,21 @@ opens supported r s n o =
     let d : leb 1 (little 2 s 2) ≡ true = le-leb 1 (little 2 s 2) (o .least) in
     let e : leb (little 2 s 2) (little 2 s 0) ≡ true = le-leb (little 2 s 2) (little 2 s 0) (o .order) in
     let f : leb (little 2 s 2) supported ≡ true = le-leb (little 2 s 2) supported (o .read) in
-    let checks : opened supported s ≡ found (strictOf s) (length s - 4) = rw (a, b, n-is, c, d, e, f) refl in
-    ap (enclosed r s) checks ∙ ap (λ (k : ℕ). closed (strictOf s) (length (take k s)) (r (versionOf s) (strictOf s) (take k s) 4)) n-is
-    ∙ ap (λ (k : ℕ). closed (strictOf s) k (r (versionOf s) (strictOf s) (take n s) 4)) whole
+    let checks : opened supported s ≡ found (versionsOf s) (length s - 4) = rw (a, b, n-is, c, d, e, f) refl in
+    ap (enclosed r s) checks ∙ ap (λ (k : ℕ). closed (strictOf s) (length (take k s)) (r (versionsOf s) (take k s) 4)) n-is
+    ∙ ap (λ (k : ℕ). closed (strictOf s) k (r (versionsOf s) (take n s) 4)) whole
 
 -- the checks passed
-passed : (supported : ℕ) (s : List ℕ) (strict : Bool) (p : ℕ) → opened supported s ≡ found strict p
-    → Opened supported s (length s - 4) × (strict ≡ strictOf s) × (p ≡ length s - 4)
+passed : (supported : ℕ) (s : List ℕ) (v : Versions) (p : ℕ) → opened supported s ≡ found v p
+    → Opened supported s (length s - 4) × (v ≡ versionsOf s) × (p ≡ length s - 4)
 unfolding opened
-passed supported s strict p e =
+passed supported s v p e =
     let n = length s - 4 in
-    let (c₁, e₁) = pick-found (leb (length s) ceiling) _ _ strict p e in
-    let (c₂, e₂) = pick-found (leb 8 (length s)) _ _ strict p e₁ in
-    let (c₃, e₃) = pick-found (eqb (crc32 (take n s)) (checksumOf s)) _ _ strict p e₂ in
-    let (c₄, e₄) = pick-found (both (leb 1 (little 2 s 2)) (leb (little 2 s 2) (little 2 s 0))) _ _ strict p e₃ in
-    let (c₅, e₅) = pick-found (leb (little 2 s 2) supported) _ _ strict p e₄ in
+    let (c₁, e₁) = pick-found (leb (length s) ceiling) _ _ v p e in
+    let (c₂, e₂) = pick-found (leb 8 (length s)) _ _ v p e₁ in
+    let (c₃, e₃) = pick-found (eqb (crc32 (take n s)) (checksumOf s)) _ _ v p e₂ in
+    let (c₄, e₄) = pick-found (both (leb 1 (little 2 s 2)) (leb (little 2 s 2) (little 2 s 0))) _ _ v p e₃ in
+    let (c₅, e₅) = pick-found (leb (little 2 s 2) supported) _ _ v p e₄ in
     let (c₆, c₇) = both-true (leb 1 (little 2 s 2)) (leb (little 2 s 2) (little 2 s 0)) c₄ in
     let eight = leb-true 8 (length s) c₂ in (
       record {
@@ -76,17 +78,17 @@ passed supported s strict p e =
       cc,
     )
 
-enclosed-found : {A : Type 0} (r : ℕ → Bool → Rule A) (s : List ℕ) (x : Step Bool) (a : A) (q : ℕ) → enclosed r s x ≡ found a q
-    → (strict : Bool) × (p : ℕ) × (x ≡ found strict p)
-enclosed-found r s (found strict p) a q e = (strict, p, refl)
+enclosed-found : {A : Type 0} (r : Versions → Rule A) (s : List ℕ) (x : Step Versions) (a : A) (q : ℕ) → enclosed r s x ≡ found a q
+    → (v : Versions) × (p : ℕ) × (x ≡ found v p)
+enclosed-found r s (found v p) a q e = (v, p, refl)
 enclosed-found r s (refused f) a q e = let z : _≡_ {A = ℕ} 0 1 = cc in absurd (omega arith)
 
-was-opened : {A : Type 0} (supported : ℕ) (r : ℕ → Bool → Rule A) (s : List ℕ) (a : A) (q : ℕ) → versioned supported r s ≡ found a q
-    → Opened supported s (length s - 4) × (closed (strictOf s) (length s - 4) (r (versionOf s) (strictOf s) (take (length s - 4) s) 4) ≡ found a q)
+was-opened : {A : Type 0} (supported : ℕ) (r : Versions → Rule A) (s : List ℕ) (a : A) (q : ℕ) → versioned supported r s ≡ found a q
+    → Opened supported s (length s - 4) × (closed (strictOf s) (length s - 4) (r (versionsOf s) (take (length s - 4) s) 4) ≡ found a q)
 unfolding versioned
 was-opened supported r s a q e =
-    let (strict, p, x) = enclosed-found r s (opened supported s) a q e in
-    let (o, _, _) = passed supported s strict p x in
+    let (v, p, x) = enclosed-found r s (opened supported s) a q e in
+    let (o, _, _) = passed supported s v p x in
     (o, sym (opens supported r s (length s - 4) o) ∙ e)
 
 -- the tree of an accepted envelope
@@ -167,7 +169,7 @@ sealed-is s u n bytes long size first sum =
     let back : drop n s ≡ spelled 4 (crc32 u) = last .at ∙ ap (λ (l : List ℕ). spelled 4 (little 4 s n) ++ l) none ∙ append-nil (spelled 4 (little 4 s n)) ∙ ap (spelled 4) (sym crc) in
     ap (λ (l : List ℕ). l ++ spelled 4 (crc32 u)) (sym front) ∙ ap (λ (l : List ℕ). take n s ++ l) (sym back) ∙ take-append-drop n s
 
-module _ {A T C : Type 0} (supported : ℕ) (r : ℕ → Bool → Rule A) (K : Carrier T C) (S : ℕ → Shape T C) (M : List ℕ → C → A → Type 0) (law : (s : List ℕ) (version : ℕ) (strict : Bool) → length s < 2 ^ 31 → Law s strict (r version strict) K (S version) (M s)) where
+module _ {A T C : Type 0} (supported : ℕ) (r : Versions → Rule A) (K : Carrier T C) (S : ℕ → Shape T C) (M : List ℕ → C → A → Type 0) (law : (s : List ℕ) (v : Versions) → length s < 2 ^ 31 → Law s (v .strict) (r v) K (S (v .version)) (M s)) where
   complete-at : (e : Enveloped T) → Right supported K S e → (s : List ℕ) → length s ≤ ceiling → Sealed s (unsummed S e)
       → Read C (versioned supported r s) (length (unsummed S e)) (M s) (K .content (e .inside))
   complete-at e right s small seal =
@@ -187,11 +189,11 @@ module _ {A T C : Type 0} (supported : ℕ) (r : ℕ → Bool → Rule A) (K : C
       } in
       let strict-is : strictOf s ≡ eqb (e .version) (e .minimum) = rw (p .minimum, p .version) refl in
       let plain : strictOf s ≡ true → K .Plain (e .inside) × (e .spare ≡ []) = λ t. right .plain (sym strict-is ∙ t) in
-      let read = law s (e .version) (strictOf s) (omega arith) .complete n 4 (e .inside) (omega (arith, seal .long)) (right .valid) (λ t. plain t .0) (stands-left inner (e .spare) (p .payload)) (omega (arith, p .long)) in
+      let read = law s (record { version = e .version; strict = strictOf s }) (omega arith) .complete n 4 (e .inside) (omega (arith, seal .long)) (right .valid) (λ t. plain t .0) (stands-left inner (e .spare) (p .payload)) (omega (arith, p .long)) in
       let full : strictOf s ≡ true → n ≤ 4 + length inner = λ t. omega (arith, p .long, ap length (plain t .1)) in
       record {
         value = read .value;
-        reads = opens supported r s n open′ ∙ ap (λ (v : ℕ). closed (strictOf s) n (r v (strictOf s) (take n s) 4)) (p .version) ∙ ap (closed (strictOf s) n) (read .reads) ∙ closed-complete (λ f. f) (strictOf s) n (read .value) (4 + length inner) full;
+        reads = opens supported r s n open′ ∙ ap (λ (v : ℕ). closed (strictOf s) n (r (record { version = v; strict = strictOf s }) (take n s) 4)) (p .version) ∙ ap (closed (strictOf s) n) (read .reads) ∙ closed-complete (λ f. f) (strictOf s) n (read .value) (4 + length inner) full;
         means = read .means;
       }
 
@@ -199,7 +201,7 @@ module _ {A T C : Type 0} (supported : ℕ) (r : ℕ → Bool → Rule A) (K : C
       → Read C (versioned supported r (renderEnvelope S e)) (length (unsummed S e)) (M (renderEnvelope S e)) (K .content (e .inside))
   envelope-complete e right small = complete-at e right (renderEnvelope S e) small (sealed-parts (unsummed S e))
 
-  sound-at : (s : List ℕ) (n : ℕ) (a : A) (q : ℕ) → Bytes s → Opened supported s n → (shut : Closed (strictOf s) n (r (versionOf s) (strictOf s) (take n s) 4) a q)
+  sound-at : (s : List ℕ) (n : ℕ) (a : A) (q : ℕ) → Bytes s → Opened supported s n → (shut : Closed (strictOf s) n (r (versionsOf s) (take n s) 4) a q)
       → Written s (strictOf s) K (S (versionOf s)) (M s) n 4 a (shut .place) → Tree supported K S (M s) s a
   sound-at s n a q bytes o shut w =
       let spare = spare-of s (shut .place) n in
@@ -230,8 +232,8 @@ module _ {A T C : Type 0} (supported : ℕ) (r : ℕ → Bool → Rule A) (K : C
   envelope-sound s a q bytes reads =
       let (o, e) = was-opened supported r s a q reads in
       let n = length s - 4 in
-      let shut = closed-sound (λ f. f) (strictOf s) n (r (versionOf s) (strictOf s) (take n s) 4) a q e in
-      let w = law s (versionOf s) (strictOf s) (omega (arith, o .small)) .sound n 4 a (shut .place) bytes (omega (arith, o .enough)) (omega arith) (o .enough) (shut .inner) in
+      let shut = closed-sound (λ f. f) (strictOf s) n (r (versionsOf s) (take n s) 4) a q e in
+      let w = law s (versionsOf s) (omega (arith, o .small)) .sound n 4 a (shut .place) bytes (omega (arith, o .enough)) (omega arith) (o .enough) (shut .inner) in
       sound-at s n a q bytes o shut w
 
   -- what a right tree of an accepted envelope says is what was read

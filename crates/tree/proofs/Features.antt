@@ -9,7 +9,7 @@ use borrow.Author.Tests.{eqb-true, eqb-false}
 use lib.ListN.{length, take, length-append}
 use Rattle.numbers.specs.Choice.{pick}
 use Rattle.wire.specs.Reading.{found, after, give, tested}
-use Rattle.wire.specs.Features.{featureBits, features}
+use Rattle.envelope.specs.Features.{featureBits, features}
 use Rattle.tree.specs.Bytes.{spelled, Stands, Bytes}
 use Rattle.tree.specs.Shape.{Written, Law, bare, numberShape}
 use Rattle.tree.specs.HeaderTree.{featureWords, featuresShape}

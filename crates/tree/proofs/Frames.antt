@@ -9,14 +9,17 @@ use lib.Dec.{ltb, leb, eqb}
 use borrow.Author.Tests.{leb-true, eqb-true, ltb-true, ltb-false, le-leb, eq-eqb, lt-ltb, le-ltb}
 use lib.ListN.{length, take, drop, length-append, length-drop, length-map}
 use lib.Seq.{length-take-le}
+use Rattle.numbers.specs.Lists.{Each}
 use Rattle.numbers.specs.Choice.{pick}
+use Rattle.numbers.proofs.Choice.{clash}
 use Rattle.numbers.specs.Numbers.{little}
-use Rattle.wire.specs.Reading.{Step, found, refused, Rule, after, closedBy, closed, frameSize, recordHead, recordEnd, listEnd, recordBody, recordOf, listStop, listCount, countJudged, listHead, listBody, listOf, inItem, within, items}
-use Rattle.wire.specs.declared.ListHead.{ListHead as Head}
-use Rattle.wire.specs.declared.FrameSize.the-variants.{RecordSize, ListSize}
+use Rattle.wire.specs.Reading.{Step, found, refused, Rule, after, inItem}
+use Rattle.frames.specs.Frames.{closedBy, closed, frameSize, recordHead, recordEnd, listEnd, recordBody, recordOf, listStop, listCount, countJudged, listHead, listBody, listOf, within, items}
+use Rattle.frames.specs.declared.ListHead.{ListHead as Head}
+use Rattle.frames.specs.declared.FrameSize.the-variants.{RecordSize, ListSize}
 use Rattle.wire.specs.declared.Fault.{Fault}
 use Rattle.tree.specs.Bytes.{spelled, Stands, Bytes}
-use Rattle.tree.specs.Shape.{Carrier, Shape, Read, Written, Law, bare, framed, recordShape, renderItems, ValidItems, All, Means, none, more, listCarrier, listShape}
+use Rattle.tree.specs.Shape.{Carrier, Shape, Read, Written, Law, bare, framed, recordShape, renderItems, ValidItems, Means, none, more, listCarrier, listShape}
 use Rattle.tree.proofs.Place.{length-spelled, stands-left, stands-right, stands-join, stands-none, stands-part, little-spelled, little-bound, spelled-little, container-long, little-container, container-in}
 use Rattle.tree.proofs.Simple.{pick-found, after-found, meant}
 
@@ -37,9 +40,6 @@ pub record Closed {A : Type 0} (strict : Bool) (stop : ℕ) (x : Step A) (a : A)
 not-refused : {A B : Type 0} {f : Fault} {a : A} {q : ℕ} → _≡_ {A = Step A} (refused f) (found a q) → B
 not-refused e = let z : _≡_ {A = ℕ} 0 1 = cc in absurd (omega arith)
 
-not-both : {B : Type 0} → _≡_ {A = Bool} true false → B
-not-both e = let z : _≡_ {A = ℕ} 0 1 = cc in absurd (omega arith)
-
 closed-strict : {A : Type 0} (f : Fault) (stop p : ℕ) (b a : A) (q : ℕ) (t : Bool) → ltb p stop ≡ t → pick t (refused f) (found b stop) ≡ found a q
     → Closed true stop (found b p) a q
 closed-strict f stop p b a q true h e = not-refused e
@@ -49,7 +49,7 @@ pub closed-sound : {A : Type 0} (mark : Fault → Fault) (strict : Bool) (stop :
     → Closed strict stop x a q
 closed-sound mark strict stop (refused f) a q e = not-refused e
 closed-sound mark true stop (found b p) a q e = closed-strict _ stop p b a q (ltb p stop) refl e
-closed-sound mark false stop (found b p) a q e = record { place = p; inner = cc; stops = cc; full = λ f. not-both (sym f) }
+closed-sound mark false stop (found b p) a q e = record { place = p; inner = cc; stops = cc; full = λ f. clash f refl }
 
 -- spare bytes from p up to a frame's end
 pub spare-of : List ℕ → ℕ → ℕ → List ℕ
@@ -211,7 +211,7 @@ pub record WrittenItems {A T C : Type 0} (s : List ℕ) (strict : Bool) (K : Car
   pub trees : List T
   pub count : length trees ≡ n
   pub valid : ValidItems G done (map (K .content) trees)
-  pub plain : strict ≡ true → All (K .Plain) trees
+  pub plain : strict ≡ true → Each (K .Plain) trees
   pub stands : Stands s p (renderItems K G done trees)
   pub stop : q ≡ p + length (renderItems K G done trees)
   pub fits : q ≤ end
@@ -246,7 +246,7 @@ items-read head r n before c p a p′ xs q q′ one later stop =
 
 module _ {A T C : Type 0} (s : List ℕ) (strict : Bool) (head : ℕ) (r : List A → Rule A) (K : Carrier T C) (G : List C → Shape T C) (M : List C → C → A → Type 0) (law : (done : List C) (before : List A) → Means M done before → Law s strict (r before) K (G done) (M done)) where
   items-complete : (ts : List T) (done : List C) (before : List A) → Means M done before → (end p : ℕ) → end ≤ length s
-      → ValidItems G done (map (K .content) ts) → (strict ≡ true → All (K .Plain) ts) → Stands s p (renderItems K G done ts)
+      → ValidItems G done (map (K .content) ts) → (strict ≡ true → Each (K .Plain) ts) → Stands s p (renderItems K G done ts)
       → p + length (renderItems K G done ts) ≤ end
       → Read (List C) (items head r (length ts) before (take end s) p) (p + length (renderItems K G done ts)) (λ cs xs. Means M cs xs) (done ++ map (K .content) ts)
   unfolding items

@@ -8,7 +8,7 @@ use Rattle.numbers.specs.Choice.{both}
 use mathlib.Core.Path.{_≡_, refl, sym, ap, _∙_}
 use native.Mathlib.Omega.{arith}
 use native.Mathlib.Nat.{add-zero}
-use lib.ListN.{length, getD, take, drop, length-append, length-drop, take-append-drop}
+use lib.ListN.{length, getD, take, drop, take-append-drop}
 use lib.Seq.{drop-drop, drop-append-seam, take-append-seam, getD-drop, drop-cons, length-take-le, getD-take, take-take}
 use Rattle.numbers.specs.Numbers.{little}
 use Rattle.tree.specs.Bytes.{spelled, Stands, Bytes}
@@ -44,10 +44,6 @@ stands-part s p n = record { rest = drop n (drop p s); at = sym (take-append-dro
 
 pub part-stands : {s : List ℕ} {p : ℕ} {bs : List ℕ} → Stands s p bs → take (length bs) (drop p s) ≡ bs
 part-stands {s} {p} {bs} h = ap (take (length bs)) (h .at) ∙ take-append-seam bs (h .rest)
-
--- what stands at a place fits into s
-pub stands-fits : {s : List ℕ} {p : ℕ} {bs : List ℕ} → Stands s p bs → p ≤ length s → p + length bs ≤ length s
-stands-fits {s} {p} {bs} h l = omega (arith, ap length (h .at), length-drop p s, length-append bs (h .rest))
 
 pub bytes-at : (s : List ℕ) (p : ℕ) → Bytes s → getD s p 0 < 256
 bytes-at [] p b = omega arith

@@ -9,9 +9,10 @@ use lib.Dec.{leb, eqb}
 use borrow.Author.Tests.{leb-true, eqb-true, le-leb, eq-eqb}
 use lib.ListN.{length, take, drop, length-append, length-drop}
 use lib.Seq.{length-take-le}
-use Rattle.numbers.specs.Choice.{pick, both}
+use Rattle.numbers.specs.Choice.{pick}
 use Rattle.numbers.specs.Numbers.{little}
-use Rattle.wire.specs.Reading.{Step, found, refused, Rule, after, _>>=_, give, here, number, judged, tested, string, ascii}
+use Rattle.wire.specs.Reading.{Step, found, refused, Rule, after, _>>=_, give, here, number, judged, tested}
+use Rattle.text.specs.Strings.{string, ascii}
 use Rattle.wire.specs.declared.Fault.{Fault}
 use Rattle.tree.specs.Bytes.{spelled, Stands}
 use Rattle.tree.specs.Shape.{Carrier, Shape, Law, bare, numberShape, stringShape, chars, nothingShape, NoVerdict, _▷_, thenShape, seenShape, dressed, dressedShape}
@@ -21,10 +22,6 @@ use Rattle.tree.proofs.Place.{length-spelled, stands-left, stands-right
 pub pick-found : {A : Type 0} (b : Bool) (x : Step A) (f : Fault) (a : A) (q : ℕ) → pick b x (refused f) ≡ found a q → (b ≡ true) × (x ≡ found a q)
 pick-found true x f a q e = (refl, e)
 pick-found false x f a q e = let z : _≡_ {A = ℕ} 0 1 = cc in absurd (omega arith)
-
-pub both-true : (b c : Bool) → both b c ≡ true → (b ≡ true) × (c ≡ true)
-both-true true c e = (refl, e)
-both-true false c e = let z : _≡_ {A = ℕ} 0 1 = cc in absurd (omega arith)
 
 pub judged-found : (verdict : ℕ → ℕ) (at : ℕ) (x : Step ℕ) (a q : ℕ) → judged verdict at x ≡ found a q → (x ≡ found a q) × (verdict a ≡ 0)
 unfolding judged

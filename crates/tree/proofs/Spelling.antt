@@ -4,11 +4,12 @@ use mathlib.Core.List.{List, [], _∷_, map}
 use mathlib.Core.Path.{_≡_, refl, sym, ap, _∙_, subst}
 use native.Mathlib.Omega.{arith}
 use borrow.Author.Tests.{eq-eqb}
+use Rattle.numbers.specs.Lists.{Each}
 use Rattle.numbers.specs.Numbers.{little}
 use Rattle.wire.specs.Reading.{found}
 use Rattle.header.specs.Tables.{headerOf}
 use Rattle.tree.specs.Bytes.{spelled, Stands}
-use Rattle.tree.specs.Shape.{Carrier, bare, framed, listCarrier, _▷_, dressed, All}
+use Rattle.tree.specs.Shape.{Carrier, bare, framed, listCarrier, _▷_, dressed}
 use Rattle.tree.specs.HeaderTree.{headerCarrier, textsShape, payloadShape, headerContent, frames, featureWords, listsCarrier, payloadTuple, tuplePayload, contentTuple, tupleContent, HeaderTree, renderHeader, tablesOf, RightHeader}
 use Rattle.tree.specs.EnvelopeTree.{unsummed}
 use Rattle.tree.specs.Spelling.{Standard, OneSpelling}
@@ -29,7 +30,7 @@ then-determined K L k l t u p q e = λ i. (k (t .0) (u .0) (p .0) (q .0) (ap (λ
 pub framed-determined : {T C : Type 0} (K : Carrier T C) → Determined K → Determined (framed K)
 framed-determined K k t u p q e = λ i. record { inside = k (t .inside) (u .inside) (p .0) (q .0) e i; spare = (p .1 ∙ sym (q .1)) i }
 
-each-determined : {T C : Type 0} (K : Carrier T C) → Determined K → (ts us : List T) → All (K .Plain) ts → All (K .Plain) us
+each-determined : {T C : Type 0} (K : Carrier T C) → Determined K → (ts us : List T) → Each (K .Plain) ts → Each (K .Plain) us
     → map (K .content) ts ≡ map (K .content) us → ts ≡ us
 each-determined K k [] [] p q e = refl
 each-determined K k [] (u ∷ us) p q e = let z : _≡_ {A = ℕ} 0 1 = cc in absurd (omega arith)

@@ -7,12 +7,13 @@ use lib.ListN.{length}
 use Rattle.numbers.specs.Numbers.{little}
 use Rattle.wire.specs.Reading.{found}
 use Rattle.header.specs.Header.{Header}
-use Rattle.header.specs.Tables.{headerOf, bit}
+use Rattle.header.specs.Tables.{headerOf}
+use Rattle.rows.specs.Words.{bit}
 use Rattle.footer.specs.Footer.{Footer, footerOf}
-use Rattle.footer.specs.declared.Link.{Link}
-use Rattle.footer.specs.declared.ClusterRow.{ClusterRow}
+use Rattle.rows.specs.declared.Link.{Link}
+use Rattle.rows.specs.declared.ClusterRow.{ClusterRow}
 use Rattle.page_list.specs.PageList.{pageListOf}
-use Rattle.page_list.specs.declared.PageRow.{PageRow}
+use Rattle.rows.specs.declared.PageRow.{PageRow}
 use Rattle.tree.specs.Bytes.{Bytes}
 use Rattle.tree.specs.Shape.{Framed}
 use Rattle.tree.specs.HeaderTree.{HeaderContent, headerContent, Frames, HeaderTree, renderHeader}

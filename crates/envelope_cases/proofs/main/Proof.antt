@@ -16,8 +16,8 @@ arg-count-requires c κs = tt
 loop-holds : tie.Need-loop-holds Inv-loop μ-loop
 loop-holds c = tt
 
-show-requires : tie.Need-show-requires Inv-loop μ-loop
-show-requires c κs = tt
+show-argument-requires : tie.Need-show-argument-requires Inv-loop μ-loop
+show-argument-requires c κs = tt
 
 add-i : tie.Need-add-i Inv-loop μ-loop
 add-i c = omega arith
@@ -39,7 +39,7 @@ main-spec =
     μ-loop
     arg-count-requires
     loop-holds
-    show-requires
+    show-argument-requires
     add-i
     loop-less
     loop-again

@@ -1,12 +1,12 @@
 use mathlib.Core.Path.{sym, ap, _∙_}
-use Rattle.exports.specs.Calls.{pageCode}
+use Rattle.outcome.specs.Outcome.{codeOf}
 use Rattle.exports.proofs.Called.{high-decode, high-decoded}
 use borrow.Author.Needs.{needs}
 use Rattle.exports.proofs.rnt_decode_page.Statement.{statement}
 use Rattle.exports.proofs.rnt_decode_page.Tie as tie
 
 returns : tie.Need-returns
-returns c = (sym (ap pageCode (high-decode _ (c .if1 .taken) _ _ _ _ _)), high-decoded _ (c .if1 .taken) _ _ _ _ _)
+returns c = (sym (ap codeOf (high-decode _ (c .if1 .taken) _ _ _ _ _)), high-decoded _ (c .if1 .taken) _ _ _ _ _)
 
 cast-decode-page : tie.Need-cast-decode-page
 cast-decode-page c = search needs
@@ -21,7 +21,7 @@ same-length : tie.Need-same-length
 same-length c = search needs
 
 returns-2 : tie.Need-returns-2
-returns-2 c = (c .page-code .ensures ∙ ap pageCode (c .before .before .before .decode-page .ensures .0), c .before .before .before .decode-page .ensures .1)
+returns-2 c = (c .page-code .ensures ∙ ap codeOf (c .before .before .before .decode-page .ensures .0), c .before .before .before .decode-page .ensures .1)
 
 pub rnt-decode-page-spec : {M : Type 1} → statement M
 rnt-decode-page-spec =

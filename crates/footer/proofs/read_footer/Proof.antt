@@ -1,6 +1,5 @@
-use Rattle.wire.specs.Answers.{openStep}
-use Rattle.header.specs.Beside.{refusal}
-use Rattle.header.proofs.SchemaLaws.{header-accepted, header-refuses, its-checksum}
+use Rattle.envelope.specs.Answers.{openStep}
+use Rattle.header_reader.proofs.SchemaLaws.{header-accepted, header-refuses, its-checksum}
 use Rattle.footer.proofs.ReadLaws.{answered-refused, header-first, not-opened, footer-read}
 use mathlib.Core.Path.{sym, ap, _∙_}
 use borrow.Author.Needs.{needs}
@@ -16,8 +15,8 @@ enum-told c = search needs
 open-envelope-requires : tie.Need-open-envelope-requires
 open-envelope-requires c κs = search needs
 
-enum-known-strict : tie.Need-enum-known-strict
-enum-known-strict c = search needs
+enum-known-opening : tie.Need-enum-known-opening
+enum-known-opening c = search needs
 
 up-to-requires : tie.Need-up-to-requires
 up-to-requires c κs = search needs
@@ -38,34 +37,17 @@ same-length-2 : tie.Need-same-length-2
 same-length-2 c = search needs
 
 returns : tie.Need-returns
-returns c =
-    let w = header-accepted (c .before .before .before .before .before .before .before .before .before .before .before .before .before .before .before .before .before .before .before .args .header .now) (c .before .before .before .before .before .before .before .before .before .before .before .before .before .before .read-schema .ensures) (c .before .before .before .before .before .before .before .before .before .before .before .before .enum-told .given .1) in
-    footer-read (c .before .before .before .before .before .before .before .before .before .before .before .before .before .before .before .before .before .before .before .args .header .now) (c .before .before .before .before .before .before .before .before .before .before .before .before .before .before .before .before .before .before .before .args .footer .now) (c .before .before .before .before .before .before .before .before .before .before .before .before .before .before .before .before .before .before .before .args .«file-length») (w .2) (sym (c .before .before .before .before .before .before .before .before .before .before .before .open-envelope .ensures) ∙ ap openStep (c .before .before .before .before .before .before .before .before .before .strict .given .1)) (its-checksum (c .before .before .before .before .before .before .before .before .before .before .before .before .before .before .before .before .before .before .before .args .header .now) (c .before .before .before .before .before .before .before .before .before .before .before .before .before .before .read-schema .ensures) (w .2)) (c .before .before .before .before .before .before .before .up-to .ensures) (c .before .before .before .before .read-payload .ensures)
+returns c = let w = header-accepted (c .before .before .before .before .before .before .before .before .before .before .before .before .before .before .before .before .before .before .before .args .header .now) (c .before .before .before .before .before .before .before .before .before .before .before .before .before .before .read-schema .ensures) (c .before .before .before .before .before .before .before .before .before .before .before .before .enum-told .given .1) in
+    footer-read (c .before .before .before .before .before .before .before .before .before .before .before .before .before .before .before .before .before .before .before .args .header .now) (c .before .before .before .before .before .before .before .before .before .before .before .before .before .before .before .before .before .before .before .args .footer .now) (c .before .before .before .before .before .before .before .before .before .before .before .before .before .before .before .before .before .before .before .args .«file-length») (w .2) (sym (c .before .before .before .before .before .before .before .before .before .before .before .open-envelope .ensures) ∙ ap openStep (c .before .before .before .before .before .before .before .before .before .opening .given .1)) (its-checksum (c .before .before .before .before .before .before .before .before .before .before .before .before .before .before .before .before .before .before .before .args .header .now) (c .before .before .before .before .before .before .before .before .before .before .before .before .before .before .read-schema .ensures) (w .2)) (c .before .before .before .before .before .before .before .up-to .ensures) (c .before .before .before .before .read-payload .ensures)
 
 returns-2 : tie.Need-returns-2
-returns-2 c =
-    let w = header-accepted (c .before .before .before .before .before .before .before .before .before .before .before .args .header .now) (c .before .before .before .before .before .before .read-schema .ensures) (c .before .before .before .before .enum-told .given .1) in
+returns-2 c = let w = header-accepted (c .before .before .before .before .before .before .before .before .before .before .before .args .header .now) (c .before .before .before .before .before .before .read-schema .ensures) (c .before .before .before .before .enum-told .given .1) in
     answered-refused _ _ (not-opened (c .before .before .before .before .before .before .before .before .before .before .before .args .header .now) (c .before .before .before .before .before .before .before .before .before .before .before .args .footer .now) (c .before .before .before .before .before .before .before .before .before .before .before .args .«file-length») (w .2) (sym (c .before .before .before .open-envelope .ensures) ∙ ap openStep (c .before .f .given .1)))
 
 returns-3 : tie.Need-returns-3
 returns-3 c =
     let w = header-refuses (c .before .before .before .before .before .before .before .before .args .header .now) (c .before .before .before .read-schema .ensures) (c .before .verdict .given .1) in
-    answered-refused _ _ (header-first (c .before .before .before .before .before .before .before .before .args .header .now) (c .before .before .before .before .before .before .before .before .args .footer .now) (c .before .before .before .before .before .before .before .before .args .«file-length») (w .1) ∙ ap (refusal 1) (w .2))
+    answered-refused _ _ (header-first (c .before .before .before .before .before .before .before .before .args .header .now) (c .before .before .before .before .before .before .before .before .args .footer .now) (c .before .before .before .before .before .before .before .before .args .«file-length») w)
 
 pub read-footer-spec : {M : Type 1} → statement M
-read-footer-spec =
-    tie.close
-    (tie.spec
-    read-schema-requires
-    enum-told
-    open-envelope-requires
-    enum-known-strict
-    up-to-requires
-    read-payload-requires
-    enum-known-f
-    enum-known-verdict
-    same-length
-    same-length-2
-    returns
-    returns-2
-    returns-3)
+read-footer-spec = tie.close (tie.spec read-schema-requires enum-told open-envelope-requires enum-known-opening up-to-requires read-payload-requires enum-known-f enum-known-verdict same-length same-length-2 returns returns-2 returns-3)

@@ -9,7 +9,7 @@ has-room-requires : tie.Need-has-room-requires
 has-room-requires c κs = search needs
 
 four-requires : tie.Need-four-requires
-four-requires c κs = c .before .has-room .ensures .fits (c .if1 .taken)
+four-requires c κs = omega (arith, c .before .has-room .ensures .fits (c .if1 .taken))
 
 returns : tie.Need-returns
 returns c = (little-read 4 (sym (c .before .before .has-room .ensures .is) ∙ c .before .if1 .taken) (c .four .ensures .0), omega arith)

@@ -1,3 +1,4 @@
+use native.Mathlib.Omega.{arith}
 use mathlib.Core.Path.{sym, _∙_}
 use Rattle.numbers.proofs.Numbers.{little-read, little-missing}
 use borrow.Author.Needs.{needs}
@@ -8,7 +9,7 @@ has-room-requires : tie.Need-has-room-requires
 has-room-requires c κs = search needs
 
 eight-requires : tie.Need-eight-requires
-eight-requires c κs = c .before .has-room .ensures .fits (c .if1 .taken)
+eight-requires c κs = omega (arith, c .before .has-room .ensures .fits (c .if1 .taken))
 
 returns : tie.Need-returns
 returns c = little-read 8 (sym (c .before .before .has-room .ensures .is) ∙ c .before .if1 .taken) (c .eight .ensures)

@@ -1,9 +1,9 @@
 use mathlib.Core.Path.{sym}
 use native.Mathlib.Omega.{arith}
 use lib.Seq.{length-take-le}
-use Rattle.header.proofs.SchemaLaws.{header-accepted, header-refuses, schema-few}
+use Rattle.header_reader.proofs.SchemaLaws.{header-accepted, header-refuses}
 use Rattle.page_list.proofs.ReadLaws.{beside-refused}
-use Rattle.page_list.proofs.SchemaLaws.{beside-found, header-refused, schema-long, schema-of, schema-fits}
+use Rattle.page_list.proofs.SchemaLaws.{beside-found, header-refused, fronts, schema-of}
 use borrow.Author.Needs.{needs}
 use Rattle.page_list.proofs.read_page_list.Statement.{statement}
 use Rattle.page_list.proofs.read_page_list.Tie as tie
@@ -15,40 +15,22 @@ enum-told : tie.Need-enum-told
 enum-told c = search needs
 
 array-share-prefix-parents : tie.Need-array-share-prefix-parents
-array-share-prefix-parents c = let e = c .before .before .before .before .before .before .before .before .before .args .header .now in
-    let w = header-accepted e (c .before .before .before .before .before .read-schema .ensures) (c .before .before .before .enum-told .given .1) .2 in
-    let few = schema-few e (c .before .before .before .before .before .read-schema .ensures) w in
-    let long = schema-long e (c .before .before .before .before .before .read-schema .ensures) w in
-    omega arith
+array-share-prefix-parents c = fronts (c .before .before .before .before .before .before .before .before .before .args .header .now) (c .before .before .before .before .before .read-schema .ensures) (header-accepted (c .before .before .before .before .before .before .before .before .before .args .header .now) (c .before .before .before .before .before .read-schema .ensures) (c .before .before .before .enum-told .given .1) .2) .0
 
 slice-aggregate-read-envelope : tie.Need-slice-aggregate-read-envelope
-slice-aggregate-read-envelope c = let e = c .before .before .before .before .before .before .before .before .before .before .args .header .now in
-    let w = header-accepted e (c .before .before .before .before .before .before .read-schema .ensures) (c .before .before .before .before .enum-told .given .1) .2 in
-    let few = schema-few e (c .before .before .before .before .before .before .read-schema .ensures) w in
-    let long = schema-long e (c .before .before .before .before .before .before .read-schema .ensures) w in
-    sym (length-take-le _ _ (omega arith))
+slice-aggregate-read-envelope c = sym (length-take-le _ _ (fronts (c .before .before .before .before .before .before .before .before .before .before .args .header .now) (c .before .before .before .before .before .before .read-schema .ensures) (header-accepted (c .before .before .before .before .before .before .before .before .before .before .args .header .now) (c .before .before .before .before .before .before .read-schema .ensures) (c .before .before .before .before .enum-told .given .1) .2) .0))
 
 array-share-prefix-flags : tie.Need-array-share-prefix-flags
-array-share-prefix-flags c = let e = c .before .before .before .before .before .before .before .before .before .before .args .header .now in
-    let w = header-accepted e (c .before .before .before .before .before .before .read-schema .ensures) (c .before .before .before .before .enum-told .given .1) .2 in
-    let few = schema-few e (c .before .before .before .before .before .before .read-schema .ensures) w in
-    let long = schema-long e (c .before .before .before .before .before .before .read-schema .ensures) w in
-    omega arith
+array-share-prefix-flags c = fronts (c .before .before .before .before .before .before .before .before .before .before .args .header .now) (c .before .before .before .before .before .before .read-schema .ensures) (header-accepted (c .before .before .before .before .before .before .before .before .before .before .args .header .now) (c .before .before .before .before .before .before .read-schema .ensures) (c .before .before .before .before .enum-told .given .1) .2) .1
 
 slice-aggregate-read-envelope-2 : tie.Need-slice-aggregate-read-envelope-2
-slice-aggregate-read-envelope-2 c = let e = c .before .before .before .before .before .before .before .before .before .before .before .args .header .now in
-    let w = header-accepted e (c .before .before .before .before .before .before .before .read-schema .ensures) (c .before .before .before .before .before .enum-told .given .1) .2 in
-    let few = schema-few e (c .before .before .before .before .before .before .before .read-schema .ensures) w in
-    let long = schema-long e (c .before .before .before .before .before .before .before .read-schema .ensures) w in
-    sym (length-take-le _ _ (omega arith))
+slice-aggregate-read-envelope-2 c = sym (length-take-le _ _ (fronts (c .before .before .before .before .before .before .before .before .before .before .before .args .header .now) (c .before .before .before .before .before .before .before .read-schema .ensures) (header-accepted (c .before .before .before .before .before .before .before .before .before .before .before .args .header .now) (c .before .before .before .before .before .before .before .read-schema .ensures) (c .before .before .before .before .before .enum-told .given .1) .2) .1))
 
 slice-aggregate-read-envelope-3 : tie.Need-slice-aggregate-read-envelope-3
 slice-aggregate-read-envelope-3 c = search needs
 
 read-envelope-requires : tie.Need-read-envelope-requires
-read-envelope-requires c κs = let e = c .before .before .before .before .before .before .before .before .before .before .before .before .before .args .header .now in
-    let w = header-accepted e (c .before .before .before .before .before .before .before .before .before .read-schema .ensures) (c .before .before .before .before .before .before .before .enum-told .given .1) .2 in
-    schema-fits e (c .before .before .before .before .before .before .before .before .before .read-schema .ensures) w (λ j. omega (arith, c .before .before .before .before .before .before .before .before .before .before .before .before .shared-slice-known .given j))
+read-envelope-requires c κs = search needs
 
 enum-known-verdict : tie.Need-enum-known-verdict
 enum-known-verdict c = search needs
@@ -59,12 +41,12 @@ same-length c = search needs
 returns : tie.Need-returns
 returns c = let e = c .before .before .before .before .before .before .before .before .before .before .before .before .before .before .before .before .args .header .now in
     let w = header-accepted e (c .before .before .before .before .before .before .before .before .before .before .before .before .read-schema .ensures) (c .before .before .before .before .before .before .before .before .before .before .enum-told .given .1) .2 in
-    rw (beside-found e (c .before .before .before .before .before .before .before .before .before .before .before .before .before .before .before .before .args .page-list .now) (c .before .before .before .before .before .before .before .before .before .before .before .before .before .before .before .before .args .entries) (c .before .before .before .before .before .before .before .before .before .before .before .before .before .before .before .before .args .file-length) w) (c .before .before .read-envelope .ensures _ (schema-of e (c .before .before .before .before .before .before .before .before .before .before .before .before .read-schema .ensures) w))
+    rw (beside-found e (c .before .before .before .before .before .before .before .before .before .before .before .before .before .before .before .before .args .page-list .now) (c .before .before .before .before .before .before .before .before .before .before .before .before .before .before .before .before .args .entries) (c .before .before .before .before .before .before .before .before .before .before .before .before .before .before .before .before .args .file-length) w) (c .before .before .read-envelope .ensures _ (schema-of e (c .before .before .before .before .before .before .before .before .before .before .before .before .read-schema .ensures) w (λ j. omega (arith, c .before .before .before .before .before .before .before .before .before .before .before .before .before .before .before .shared-slice-known .given j))))
 
 returns-2 : tie.Need-returns-2
 returns-2 c = let e = c .before .before .before .before .before .before .before .args .header .now in
     let r = header-refuses e (c .before .before .before .read-schema .ensures) (c .before .verdict .given .1) in
-    rw (← r .2) (beside-refused (c .before .before .before .before .before .before .before .args .pages .now) (header-refused e (c .before .before .before .before .before .before .before .args .page-list .now) (c .before .before .before .before .before .before .before .args .entries) (c .before .before .before .before .before .before .before .args .file-length) (r .1)))
+    beside-refused (c .before .before .before .before .before .before .before .args .pages .now) (header-refused e (c .before .before .before .before .before .before .before .args .page-list .now) (c .before .before .before .before .before .before .before .args .entries) (c .before .before .before .before .before .before .before .args .file-length) r)
 
 pub read-page-list-spec : {M : Type 1} → statement M
 read-page-list-spec =

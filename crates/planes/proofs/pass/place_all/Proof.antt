@@ -7,7 +7,7 @@ use lib.ListN.{length, take, drop, length-drop}
 use denote.Ref.{now}
 use Rattle.planes.specs.Plane.{joinedBy, withByte}
 use Rattle.planes.specs.Join.{others, joins}
-use Rattle.planes.proofs.Parts.{rest-of, put-rest}
+use Rattle.numbers.proofs.Parts.{rest-of, put-rest}
 use Rattle.planes.proofs.Joined.{joined-rest, joined-same}
 use Rattle.planes.proofs.Words.{unit-is, unit-fits, joins-with-byte}
 use borrow.Author.Needs.{needs}

@@ -34,9 +34,11 @@ use denote.Triple.Spec.{Meets, tripleOf}
 use denote.Triple.Table.{entered, cited}
 use denote.Triple.Walked.{Stays, stay-none, walkOf, goes-none}
 use denote.Exit.{yes}
-use Rattle.wire.specs.declared.Text.{Text}
-use Rattle.wire.proofs.Text as X
-use Rattle.wire.proofs.Text.Laws as X′
+use Rattle.rows.specs.declared.Text.{Text}
+use Rattle.rows.proofs.Text as X
+use Rattle.rows.proofs.Text.Laws as X′
+use Rattle.rows.proofs.Text as X
+use Rattle.rows.proofs.Text.Laws as X′
 use Rattle.reader.specs.Text.{textOf}
 use Rattle.reader.specs.declared.Reader.{Reader}
 use Rattle.reader.proofs.Walk.{Fact, Says, saying, asks, ends, meets, calls}

@@ -1,5 +1,7 @@
-use mathlib.Core.Path.{ap, _∙_}
-use Rattle.wire.specs.Reading.{judged, listed}
+use mathlib.Core.Path.{sym, ap, _∙_}
+use Rattle.wire.specs.Answers.{numberStep}
+use Rattle.wire.proofs.Laws.{judged-read, judged-missing}
+use Rattle.wire.specs.Reading.{listed}
 use borrow.Author.Needs.{needs}
 use Rattle.records.proofs.tested.listed_2.Statement.{statement}
 use Rattle.records.proofs.tested.listed_2.Tie as tie
@@ -7,11 +9,23 @@ use Rattle.records.proofs.tested.listed_2.Tie as tie
 number-2-requires : tie.Need-number-2-requires
 number-2-requires c κs = search needs
 
-at-most-requires : tie.Need-at-most-requires
-at-most-requires c κs = search needs
+enum-known-v : tie.Need-enum-known-v
+enum-known-v c = search needs
+
+listed-requires : tie.Need-listed-requires
+listed-requires c κs = search needs
+
+judge-requires : tie.Need-judge-requires
+judge-requires c κs = search needs
+
+enum-known-f : tie.Need-enum-known-f
+enum-known-f c = search needs
 
 returns : tie.Need-returns
-returns c = c .at-most .ensures ∙ ap (judged (listed (c .before .before .before .args .most)) _) (c .before .number-2 .ensures)
+returns c = c .judge .ensures ∙ judged-read (listed (c .before .before .before .before .before .before .before .args .most)) _ (sym (c .before .before .before .before .before .number-2 .ensures) ∙ ap numberStep (c .before .before .before .v .given .1)) (c .before .listed .ensures)
+
+returns-2 : tie.Need-returns-2
+returns-2 c = judged-missing (listed (c .before .before .before .before .before .args .most)) _ (sym (c .before .before .before .number-2 .ensures) ∙ ap numberStep (c .before .f .given .1))
 
 pub listed-2-spec : {M : Type 1} → statement M
-listed-2-spec = tie.close (tie.spec number-2-requires at-most-requires returns)
+listed-2-spec = tie.close (tie.spec number-2-requires enum-known-v listed-requires judge-requires enum-known-f returns returns-2)

@@ -1,5 +1,7 @@
-use mathlib.Core.Path.{ap, _∙_}
-use Rattle.wire.specs.Reading.{judged, below}
+use mathlib.Core.Path.{sym, ap, _∙_}
+use Rattle.wire.specs.Answers.{numberStep}
+use Rattle.wire.proofs.Laws.{judged-read, judged-missing}
+use Rattle.wire.specs.Reading.{below}
 use borrow.Author.Needs.{needs}
 use Rattle.records.proofs.tested.number_below.Statement.{statement}
 use Rattle.records.proofs.tested.number_below.Tie as tie
@@ -7,11 +9,23 @@ use Rattle.records.proofs.tested.number_below.Tie as tie
 number-4-requires : tie.Need-number-4-requires
 number-4-requires c κs = search needs
 
-below-count-requires : tie.Need-below-count-requires
-below-count-requires c κs = search needs
+enum-known-v : tie.Need-enum-known-v
+enum-known-v c = search needs
+
+below-requires : tie.Need-below-requires
+below-requires c κs = search needs
+
+judge-requires : tie.Need-judge-requires
+judge-requires c κs = search needs
+
+enum-known-f : tie.Need-enum-known-f
+enum-known-f c = search needs
 
 returns : tie.Need-returns
-returns c = c .below-count .ensures ∙ ap (judged (below (c .before .before .before .args .count)) _) (c .before .number-4 .ensures)
+returns c = c .judge .ensures ∙ judged-read (below (c .before .before .before .before .before .before .before .args .count)) _ (sym (c .before .before .before .before .before .number-4 .ensures) ∙ ap numberStep (c .before .before .before .v .given .1)) (c .before .below .ensures)
+
+returns-2 : tie.Need-returns-2
+returns-2 c = judged-missing (below (c .before .before .before .before .before .args .count)) _ (sym (c .before .before .before .number-4 .ensures) ∙ ap numberStep (c .before .f .given .1))
 
 pub number-below-spec : {M : Type 1} → statement M
-number-below-spec = tie.close (tie.spec number-4-requires below-count-requires returns)
+number-below-spec = tie.close (tie.spec number-4-requires enum-known-v below-requires judge-requires enum-known-f returns returns-2)

@@ -1,0 +1,69 @@
+-- The loop over clusters: the items that are read, and the sum of their entries.
+use Prim.Native.Nat.{ℕ, _+_, _/_, _%_, _^_, _<_}
+use mathlib.Core.Path.{_≡_, refl, sym, ap, subst, _∙_}
+use mathlib.Core.Bool.{Bool, true, false}
+use mathlib.Core.List.{List, [], _∷_, _++_}
+use native.Mathlib.Omega.{arith}
+use borrow.Author.Tests.{ltb-true}
+use lib.Dec.{ltb, eqb}
+use Rattle.numbers.specs.Choice.{pick}
+use Rattle.wire.specs.Reading.{Step, found, _>>=_, give, number, tested}
+use Rattle.frames.specs.Frames.{recordOf}
+use Rattle.wire.proofs.Laws.{bound, judged-zero}
+use Rattle.frames.proofs.Loops.{Reached, reached-none, reached-more, record-found}
+use Rattle.clusters.specs.Clusters.{link, entriesOf, startsAt, entryCount, cluster}
+use Rattle.rows.specs.declared.Link.{Link}
+use Rattle.rows.specs.declared.ClusterRow.{ClusterRow}
+
+pub entries-snoc : (done : List ClusterRow) (x : ClusterRow) → entriesOf (done ++ (x ∷ [])) ≡ entriesOf done + x .entries
+unfolding entriesOf
+entries-snoc [] x = omega arith
+entries-snoc (c ∷ cs) x = let e = entries-snoc cs x in omega arith
+
+-- an entry count that has passed its verdict keeps the sum below 2^60
+count-fits : (sum w : ℕ) → entryCount sum w ≡ 0 → sum + w < 2 ^ 60
+count-fits sum w e = by (eqb (w / 2 ^ 60 % 2) 0) (ltb w (2 ^ 60)) (ltb (sum + w) (2 ^ 60)) refl e
+  where
+    by : (a b d : Bool) → ltb (sum + w) (2 ^ 60) ≡ d → _≡_ {A = ℕ} (pick a (pick b (pick d 0 19) 12) 17) 0 → sum + w < 2 ^ 60
+    by true true true g h = ltb-true (sum + w) (2 ^ 60) g
+    by true true false g h = absurd (omega arith)
+    by true false d g h = absurd (omega arith)
+    by false b d g h = absurd (omega arith)
+
+cluster-fits : (file sum : ℕ) (s : List ℕ) (at : ℕ) {r : ClusterRow} {p : ℕ} → cluster file sum s at ≡ found r p → sum + r .entries < 2 ^ 60
+unfolding cluster
+cluster-fits file sum s at {r} {p} =
+    bound Fits (tested 8 (startsAt sum)) (λ f. tested 8 (entryCount sum) >>= (λ w. link file >>= (λ l. give (row f w l)))) s at (λ f q _.
+    bound Fits (tested 8 (entryCount sum)) (λ w. link file >>= (λ l. give (row f w l))) s q (λ w q₂ e.
+    bound Fits (link file) (λ l. give (row f w l)) s q₂ (λ l q₃ _ g.
+    let same : row f w l ≡ r = cc in
+    rw (← same) (count-fits sum w (judged-zero (entryCount sum) q (number 8 s q) e)))))
+  where
+    Fits : ClusterRow → ℕ → Type 0
+    Fits r _ = sum + r .entries < 2 ^ 60
+
+    row : ℕ → ℕ → Link → ClusterRow
+    row f w l = record { «first_entry» = f; entries = w; «page_list» = l }
+
+pub record-fits : (strict : Bool) (file sum : ℕ) (s : List ℕ) (at : ℕ) {r : ClusterRow} {p : ℕ} → recordOf strict (cluster file sum) s at ≡ found r p → sum + r .entries < 2 ^ 60
+record-fits strict file sum s at = record-found (λ x. sum + x .entries < 2 ^ 60) strict (cluster file sum) s at (λ t from q. cluster-fits file sum t from)
+
+-- i clusters of the n of a list have been read, and have `sum` entries
+pub record Summed (strict : Bool) (file list n : ℕ) (s : List ℕ) (start i at sum : ℕ) : Type 0 where
+  pub reached : Reached list (λ done. recordOf strict (cluster file (entriesOf done))) n s start i at
+  pub sums : sum ≡ entriesOf (reached .done)
+
+module _ {strict : Bool} {file list n : ℕ} {s : List ℕ} {start : ℕ} where
+  unfoldable pub summed-none : Summed strict file list n s start 0 start 0
+  unfolding entriesOf reached-none
+  summed-none = record { reached = reached-none; sums = refl }
+
+  module _ {i at sum : ℕ} (m : Summed strict file list n s start i at sum) where
+    -- the rule of the next item, by the sum
+    pub summed-rule : {x : Step ClusterRow} → recordOf strict (cluster file sum) s at ≡ x → recordOf strict (cluster file (entriesOf (m .reached .done))) s at ≡ x
+    summed-rule {x} e = subst (λ (b : ℕ). recordOf strict (cluster file b) s at ≡ x) (m .sums) e
+
+    unfoldable pub summed-more : {x : ClusterRow} {p : ℕ} → i < n → recordOf strict (cluster file sum) s at ≡ found x p → Summed strict file list n s start (i + 1) p (sum + x .entries)
+    unfolding reached-more
+    summed-more {x} h e =
+        record { reached = reached-more (m .reached) h (summed-rule e); sums = ap (λ b. b + x .entries) (m .sums) ∙ sym (entries-snoc (m .reached .done) x) }

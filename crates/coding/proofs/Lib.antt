@@ -1,0 +1,12 @@
+pub mod Below
+pub mod Widths
+pub mod Delta
+pub mod Zigzag
+pub mod Signs
+pub mod Planes
+pub mod Plain
+pub mod Bits
+pub mod Strided
+pub mod Places
+pub mod Puts
+pub mod Inverses

@@ -1,0 +1,4 @@
+pub mod Signed
+pub mod Layout
+pub mod Inverses
+pub mod Strides

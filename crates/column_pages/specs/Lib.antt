@@ -1,0 +1,2 @@
+pub mod ColumnPages
+pub mod Answers

@@ -1,0 +1,5 @@
+pub mod Xor
+pub mod Linear
+pub mod Register
+pub mod Shifts
+pub mod Quotient

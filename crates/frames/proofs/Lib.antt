@@ -1,0 +1,4 @@
+pub mod Laws
+pub mod SizeWord
+pub mod Loops
+pub mod Cut

@@ -1,0 +1,111 @@
+// From the bytes of a page to its elements, in lent words.
+ghost use mathlib.Core.Path.{_≡_};
+ghost use mathlib.Core.Bool.{true, false};
+ghost use Prim.Native.Nat.{ℕ, _+_, _*_, _-_, _<_, _≤_};
+ghost use lib.ListN.{length};
+ghost use lib.Dec.{eqb};
+ghost use Rattle.numbers.specs.Numbers.{little};
+ghost use Rattle.numbers.specs.Rows.{over};
+ghost use Rattle.coding.specs.Layout.{WholeBytes, unplain, unplanes};
+ghost use Rattle.page_rules.specs.Page.{readable, sizeOf, laid, elements};
+use crate::bit::unpack;
+use crate::difference::sum_up;
+use crate::signed::unzigzag_all;
+use planes::clear_above;
+use planes::place_plane;
+
+// The number of k bytes at a place: where k is a literal, the compiler keeps one branch.
+fn number_at(k: usize, bytes: &[u8], at: usize) -> u64
+    requires { ⌜ WholeBytes k × (at + k ≤ length (now bytes)) ⌝ }
+    ensures { λ r. ⌜ r ≡ little k (now (bytes .entry)) at ⌝ }
+{
+    if k == 1 {
+        bytes[at] as u64
+    } else if k == 2 {
+        numbers::little_2(bytes, at)
+    } else if k == 4 {
+        numbers::little_4(bytes, at)
+    } else {
+        numbers::little_8(bytes, at)
+    }
+}
+
+// The first n words become the numbers of k bytes that stand side by side. Called with k a literal, and with no byte behind the last number: the compiler
+// makes a loop for each k, and sees that every number is there.
+fn numbers_out(bytes: &[u8], k: usize, n: usize, out: &mut [u64])
+    requires { ⌜ WholeBytes k × (n ≤ length (now out)) × (n * k ≤ length (now bytes)) ⌝ }
+    ensures { λ _. ⌜ now (out .exit) ≡ over (unplain k n (now (bytes .entry))) (now (out .entry)) ⌝ }
+{
+    let mut i = 0;
+    while i < n {
+        out[i] = number_at(k, bytes, i * k);
+        i += 1;
+    }
+}
+
+// The numbers of a plain page.
+fn plain_out(page: &[u8], k: usize, n: usize, out: &mut [u64])
+    requires { ⌜ WholeBytes k × (n ≤ length (now out)) × (n * k ≤ length (now page)) ⌝ }
+    ensures { λ _. ⌜ now (out .exit) ≡ over (unplain k n (now (page .entry))) (now (out .entry)) ⌝ }
+{
+    if k == 1 {
+        numbers_out(&page[..n], 1, n, out);
+    } else if k == 2 {
+        let size = n * 2;
+        numbers_out(&page[..size], 2, n, out);
+    } else if k == 4 {
+        let size = n * 4;
+        numbers_out(&page[..size], 4, n, out);
+    } else {
+        let size = n * 8;
+        numbers_out(&page[..size], 8, n, out);
+    }
+}
+
+// The numbers of a split page. What no plane replaces is cleared; then each plane is gone through once, and its bytes are placed.
+fn split_out(page: &[u8], k: usize, n: usize, out: &mut [u64])
+    requires { ⌜ (k ≤ 8) × (n ≤ length (now out)) × (k * n ≤ length (now page)) ⌝ }
+    ensures { λ _. ⌜ now (out .exit) ≡ over (unplanes k n (now (page .entry))) (now (out .entry)) ⌝ }
+{
+    clear_above(k, &mut out[..n]);
+    let mut p = 0;
+    while p < k {
+        let from = p * n;
+        let to = from + n;
+        place_plane(p, &page[from..to], out);
+        p += 1;
+    }
+}
+
+// The first n words become the numbers of a page that is not a Bit page, split or plain.
+fn lay(column_type: u64, n: usize, page: &[u8], out: &mut [u64])
+    requires { ⌜ (readable «column_type» ≡ true) × (eqb «column_type» 6 ≡ false) × (sizeOf «column_type» n ≤ length (now page)) × (n ≤ length (now out)) ⌝ }
+    ensures { λ _. ⌜ now (out .exit) ≡ over (laid «column_type» n (now (page .entry))) (now (out .entry)) ⌝ }
+{
+    let k = (column_type::width_of(column_type) / 8) as usize;
+    if column_type::is_split(column_type) {
+        split_out(page, k, n, out);
+    } else {
+        plain_out(page, k, n, out);
+    }
+}
+
+// The first n words become the elements of a page.
+pub fn fill(column_type: u64, n: usize, page: &[u8], out: &mut [u64])
+    requires { ⌜ (readable «column_type» ≡ true) × (sizeOf «column_type» n ≤ length (now page)) × (n ≤ length (now out)) ⌝ }
+    ensures { λ _. ⌜ now (out .exit) ≡ over (elements «column_type» n (now (page .entry))) (now (out .entry)) ⌝ }
+{
+    if column_type == 6 {
+        unpack(page, n, out);
+        return;
+    }
+    lay(column_type, n, page, out);
+    let width = column_type::width_of(column_type);
+    if column_type::is_delta(column_type) {
+        sum_up(width, n, out);
+        return;
+    }
+    if column_type::is_zigzag(column_type) {
+        unzigzag_all(width, n, out);
+    }
+}

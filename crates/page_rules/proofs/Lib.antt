@@ -1,0 +1,4 @@
+pub mod Types
+pub mod Laid
+pub mod Decoding
+pub mod Encoding

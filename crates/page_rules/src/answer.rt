@@ -1,0 +1,150 @@
+// The tests of a page call, in document 01's order.
+ghost use mathlib.Core.Path.{_≡_};
+ghost use mathlib.Core.Bool.{Bool, true, false};
+ghost use Prim.Native.Nat.{ℕ, _+_, _*_, _-_, _/_, _%_, _^_, _<_, _≤_};
+ghost use lib.ListN.{length};
+ghost use lib.Dec.{leb};
+ghost use Rattle.page_rules.specs.Page.{readable, sizeOf, trailer, unusedClear, checksumRight, outcomeOf, decodeOutcome, encodeOutcome};
+ghost use Rattle.coding.specs.Layout.{fit};
+use crate::PageAnswer;
+use crate::number::most;
+
+// A type whose pages are read: known, and not Switch.
+fn is_readable(column_type: u64) -> bool
+    ensures { λ r. ⌜ r ≡ readable «column_type» ⌝ }
+{
+    column_type::is_known(column_type) && column_type != 3
+}
+
+// The bytes of a page of n elements, without its checksum.
+fn page_size(column_type: u64, n: usize) -> usize
+    requires { ⌜ (readable «column_type» ≡ true) × (n ≤ 131072) ⌝ }
+    ensures { λ r. ⌜ (r ≡ sizeOf «column_type» n) × (r ≤ 1048576) ⌝ }
+{
+    (n * (column_type::width_of(column_type) as usize) + 7) / 8
+}
+
+fn trailer_size(checksum: bool) -> usize
+    ensures { λ r. ⌜ r ≡ trailer checksum ⌝ }
+{
+    if checksum { 4 } else { 0 }
+}
+
+// The checksum behind the page, if there is one, is that of the page.
+fn checksum_right(checksum: bool, size: usize, page: &[u8]) -> bool
+    requires { ⌜ length (now page) ≡ size + trailer checksum ⌝ }
+    ensures { λ r. ⌜ r ≡ checksumRight checksum size (now (page .entry)) ⌝ }
+{
+    if checksum {
+        checksum::crc32(&page[..size]) as u64 == numbers::little_4(page, size)
+    } else {
+        true
+    }
+}
+
+// The unused bits of a Bit page's last byte are zero.
+fn unused_clear(column_type: u64, n: usize, page: &[u8]) -> bool
+    requires { ⌜ sizeOf «column_type» n ≤ length (now page) ⌝ }
+    ensures { λ r. ⌜ r ≡ unusedClear «column_type» n (now (page .entry)) ⌝ }
+{
+    if column_type == 6 {
+        let used = n % 8;
+        if used == 0 {
+            true
+        } else {
+            (page[n / 8] as u64) >> used == 0
+        }
+    } else {
+        true
+    }
+}
+
+// Start plus count does not pass the lent words.
+fn has_room(words: usize, start: usize, n: usize) -> bool
+    ensures { λ r. ⌜ r ≡ leb (start + n) words ⌝ }
+{
+    if n <= words {
+        start <= words - n
+    } else {
+        false
+    }
+}
+
+// Every word is below 2 to the width: the bits of all of them are.
+fn all_fit(width: u64, words: &[u64]) -> bool
+    requires { ⌜ width ≤ 64 ⌝ }
+    ensures { λ r. ⌜ r ≡ fit width (now (words .entry)) ⌝ }
+{
+    let limit = most(width);
+    let mut all: u64 = 0;
+    let mut i = 0;
+    while i < words.len() {
+        all = all | words[i];
+        i += 1;
+    }
+    all <= limit
+}
+
+pub fn decode_answer(
+    column_type: u64,
+    n: usize,
+    checksum: bool,
+    page: &[u8],
+    words: usize,
+    start: usize,
+) -> PageAnswer
+    ensures { λ r. ⌜ outcomeOf r ≡ decodeOutcome «column_type» n checksum (now (page .entry)) words start ⌝ }
+{
+    if !is_readable(column_type) {
+        return PageAnswer::Refused(23);
+    }
+    if 131072 < n {
+        return PageAnswer::Refused(10);
+    }
+    let size = page_size(column_type, n);
+    if page.len() != size + trailer_size(checksum) {
+        return PageAnswer::Refused(21);
+    }
+    if !checksum_right(checksum, size, page) {
+        return PageAnswer::Refused(22);
+    }
+    if !unused_clear(column_type, n, page) {
+        return PageAnswer::Refused(24);
+    }
+    if has_room(words, start, n) {
+        PageAnswer::Accepted(n)
+    } else {
+        PageAnswer::Refused(20)
+    }
+}
+
+pub fn encode_answer(
+    column_type: u64,
+    n: usize,
+    checksum: bool,
+    words: &[u64],
+    start: usize,
+    room: usize,
+) -> PageAnswer
+    ensures { λ r. ⌜ outcomeOf r ≡ encodeOutcome «column_type» n checksum (now (words .entry)) start room ⌝ }
+{
+    if !is_readable(column_type) {
+        return PageAnswer::Refused(23);
+    }
+    if 131072 < n {
+        return PageAnswer::Refused(10);
+    }
+    if !has_room(words.len(), start, n) {
+        return PageAnswer::Refused(20);
+    }
+    let size = page_size(column_type, n) + trailer_size(checksum);
+    if room < size {
+        return PageAnswer::Refused(20);
+    }
+    let end = start + n;
+    if all_fit(column_type::width_of(column_type), &words[start..end]) {
+        PageAnswer::Accepted(size)
+    } else {
+        PageAnswer::Refused(25)
+    }
+}

@@ -1,0 +1,110 @@
+-- Laws of the moves from a field to its self-parented field, and of their sum. Assumes nothing.
+use Prim.Native.Nat.{ℕ, zero, suc, _+_, _*_, _-_, _/_, _≤_, _<_}
+use mathlib.Core.Path.{_≡_, refl, sym, ap, _∙_}
+use mathlib.Core.Logic.{⊎-elim}
+use mathlib.Core.Bool.{true, false}
+use mathlib.Core.List.{List}
+use native.Mathlib.Nat.{mul-one, mul-suc, suc-mul, mul-sub}
+use native.Mathlib.Numerals.{add-one}
+use native.Mathlib.Omega.{arith}
+use lib.ListN.{getD, take}
+use lib.Seq.{getD-take}
+use Rattle.numbers.specs.Choice.{pick}
+use Rattle.parents.specs.Parents.{Inside, meets, topLevel, reaches, moves, totalMoves}
+use Rattle.parents.proofs.Counting.{count, count-all, search-below}
+use Rattle.numbers.proofs.Choice.{which}
+use Rattle.parents.proofs.ChainLaws.{meets-down, meets-more, levels, crossing}
+
+module _ (parents : List ℕ) where
+  pub moves-top : (k f : ℕ) → topLevel parents f ≡ true → moves parents k f ≡ 0
+  unfolding moves
+  moves-top zero f t = refl
+  moves-top (suc k) f t = rw t
+
+  pub moves-le : (k f : ℕ) → moves parents k f ≤ k
+  unfolding moves
+  moves-le zero f = omega arith
+  moves-le (suc k) f =
+      ⊎-elim (λ t. rw t (omega arith)) (λ t. rw t (let r = moves-le k (getD parents f 0) in omega arith)) (which (topLevel parents f))
+
+  -- one move more is counted exactly where k moves do not reach
+  moves-more : (k f : ℕ) → moves parents (suc k) f + pick (reaches parents k f) 1 0 ≡ moves parents k f + 1
+  unfolding moves meets
+  moves-more zero f = ⊎-elim (λ t. rw t (omega arith)) (λ t. rw t (omega arith)) (which (topLevel parents f))
+  moves-more (suc k) f =
+      ⊎-elim (λ t. rw t (omega arith)) (λ t. rw t (let r = moves-more k (getD parents f 0) in omega arith)) (which (topLevel parents f))
+
+  moves-step : (k f : ℕ) → topLevel parents f ≡ false → moves parents (suc k) f ≡ suc (moves parents k (getD parents f 0))
+  unfolding moves
+  moves-step k f t = rw t
+
+  -- a move up from a field that is reached, and not the last
+  pub moves-up : (k f : ℕ) → reaches parents k f ≡ true → topLevel parents f ≡ false
+      → (moves parents k f ≡ suc (moves parents k (getD parents f 0))) × (reaches parents k (getD parents f 0) ≡ true)
+  moves-up k f e t =
+      let m = moves-more k f in
+      let a : moves parents (suc k) f ≡ moves parents k f = let m′ = rw e at m in omega arith in
+      let b : moves parents (suc k) f ≡ suc (moves parents k (getD parents f 0)) = moves-step k f t in
+      (sym a ∙ b, meets-down (topLevel parents) parents k f t (meets-more (topLevel parents) parents k f e))
+
+  sum-more : (k m : ℕ) → totalMoves parents (suc k) m + count (meets (topLevel parents) parents k) m ≡ totalMoves parents k m + m
+  unfolding totalMoves count
+  sum-more k zero = refl
+  sum-more k (suc m) = let r = sum-more k m in let s = moves-more k m in omega arith
+
+  pub sum-le : (b k m : ℕ) → k ≤ b → totalMoves parents k m ≤ b * m
+  unfolding totalMoves
+  sum-le b k zero h = omega arith
+  sum-le b k (suc m) h = let r = sum-le b k m h in let s = moves-le k m in rw (mul-suc b m) (omega arith)
+
+  pub total-more : (k m : ℕ) → totalMoves parents k (m + 1) ≡ totalMoves parents k m + moves parents k m
+  unfolding totalMoves
+  total-more k m = rw add-one
+
+triangle : ℕ → ℕ
+triangle zero = 0
+triangle (suc m) = triangle m + suc m
+
+twice-triangle : (m : ℕ) → triangle m + triangle m ≡ m * m + m
+unfolding triangle
+twice-triangle zero = refl
+twice-triangle (suc m) = let r = twice-triangle m in rw (mul-suc (suc m) m, suc-mul m m) (omega arith)
+
+module _ (parents : List ℕ) (n : ℕ) (inside : Inside parents n) (ends : (f : ℕ) → f < n → reaches parents n f ≡ true) where
+  -- k moves reach k + 1 fields at least
+  reached : (k : ℕ) → k < n → suc k ≤ count (meets (topLevel parents) parents k) n
+  reached k l =
+      ⊎-elim
+      (λ all. let r = count-all (meets (topLevel parents) parents k) n all in omega arith)
+      (λ one.
+      let g = crossing (topLevel parents) parents n inside k n (one .0) (one .1) (one .2) (ends (one .0) (one .1)) in
+      levels (topLevel parents) parents n inside k (g .0) (g .1) (g .2) (g .3))
+      (search-below (meets (topLevel parents) parents k) n)
+
+  sum-bound : (k : ℕ) → k ≤ n → totalMoves parents k n + triangle k ≤ n * k
+  unfolding triangle
+  sum-bound zero l = let r = sum-le parents zero zero n (omega arith) in omega arith
+  sum-bound (suc k) l =
+      let r = sum-bound k (omega arith) in
+      let s = sum-more parents k n in
+      let q = reached k l in
+      rw (mul-suc n k) (omega arith)
+
+  pub total-bound : totalMoves parents n n ≤ n * (n - 1) / 2
+  total-bound =
+      let r = sum-bound n (omega arith) in
+      let t = twice-triangle n in
+      rw (mul-sub n n 1, mul-one n) (omega arith)
+
+-- the first n of a longer list of parents have the same moves
+module _ (parents : List ℕ) (n : ℕ) (inside : Inside parents n) where
+  moves-take : (k f : ℕ) → f < n → moves parents k f ≡ moves (take n parents) k f
+  unfolding moves
+  moves-take zero f l = refl
+  moves-take (suc k) f l =
+      rw (getD-take n parents f 0 l) (ap (λ (m : ℕ). pick (topLevel parents f) 0 (suc m)) (moves-take k (getD parents f 0) (inside f l)))
+
+  pub total-take : (k m : ℕ) → m ≤ n → totalMoves parents k m ≡ totalMoves (take n parents) k m
+  unfolding totalMoves
+  total-take k zero l = refl
+  total-take k (suc m) l = rw (total-take k m (omega arith), moves-take k m l)

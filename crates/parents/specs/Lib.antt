@@ -1,0 +1,3 @@
+pub mod Parents
+pub mod Dark
+pub mod Marks

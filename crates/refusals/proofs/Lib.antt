@@ -1,0 +1,6 @@
+pub mod Naming
+pub mod HeaderNumbers
+pub mod FooterNumbers
+pub mod PageListNumbers
+pub mod Refusals
+pub mod Examples

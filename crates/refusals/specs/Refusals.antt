@@ -1,0 +1,86 @@
+-- Which refusals each reader can give, by envelope and number; and that the one number of a call tells them.
+use Prim.Native.Nat.{ℕ, _/_, _%_}
+use mathlib.Core.List.{List, [], _∷_}
+use mathlib.Core.Bool.{Bool, true, false}
+use mathlib.Core.Path.{_≡_}
+use lib.Dec.{eqb}
+use Rattle.numbers.specs.Choice.{pick, both}
+use Rattle.wire.specs.Reading.{refused}
+use Rattle.wire.specs.declared.Fault.{Fault}
+use Rattle.outcome.specs.Outcome.{Outcome, isAccepted, codeOf}
+use Rattle.header.specs.Header.{Header}
+use Rattle.header.specs.Tables.{headerOf, outcomeOf, Answered}
+use Rattle.header.specs.declared.HeaderAnswer.{HeaderAnswer}
+use Rattle.footer.specs.Footer.{footerOf}
+use Rattle.footer.specs.Tables.{footerBeside, outcomeOf as footerOutcome, Answered as AnsweredFooter}
+use Rattle.footer.specs.declared.FooterAnswer.{FooterAnswer}
+use Rattle.page_list.specs.PageList.{pageListOf}
+use Rattle.page_list.specs.Tables.{pageListBeside, outcomeOf as pageListOutcome, Answered as AnsweredPages}
+use Rattle.page_list.specs.declared.PageListAnswer.{PageListAnswer}
+
+-- n is one of these numbers
+unfoldable pub among : List ℕ → ℕ → Bool
+among [] n = false
+among (m ∷ ms) n = pick (eqb n m) true (among ms n)
+
+-- The numbers that each envelope can be refused with.
+
+abbrev pub inHeader : List ℕ
+inHeader = 1 ∷ 2 ∷ 3 ∷ 4 ∷ 5 ∷ 6 ∷ 7 ∷ 8 ∷ 9 ∷ 10 ∷ 11 ∷ 12 ∷ 13 ∷ 14 ∷ 15 ∷ []
+
+-- a footer has no strings, no column types, no numbers of fields or columns
+abbrev pub inFooter : List ℕ
+inFooter = 1 ∷ 2 ∷ 3 ∷ 4 ∷ 5 ∷ 6 ∷ 7 ∷ 8 ∷ 10 ∷ 11 ∷ 12 ∷ 16 ∷ 17 ∷ 18 ∷ 19 ∷ []
+
+-- a page list has neither these nor feature words, and it names no header
+abbrev pub inPageList : List ℕ
+inPageList = 1 ∷ 2 ∷ 3 ∷ 4 ∷ 5 ∷ 7 ∷ 8 ∷ 10 ∷ 11 ∷ 12 ∷ 17 ∷ 18 ∷ 19 ∷ []
+
+unfoldable pub HeaderNumbers : Type 0
+HeaderNumbers = (e : List ℕ) (f : Fault) → headerOf e ≡ refused f → among inHeader (f .number) ≡ true
+
+unfoldable pub FooterNumbers : Type 0
+FooterNumbers = (checksum file : ℕ) (g : List ℕ) (f : Fault) → footerOf checksum file g ≡ refused f → among inFooter (f .number) ≡ true
+
+unfoldable pub PageListNumbers : Type 0
+PageListNumbers = (h : Header) (entries file : ℕ) (l : List ℕ) (f : Fault) → pageListOf h entries file l ≡ refused f → among inPageList (f .number) ≡ true
+
+-- The refusals of a call.
+
+-- 20 besides, for the lent room
+abbrev pub withRoom : List ℕ → List ℕ
+withRoom numbers = 20 ∷ numbers
+
+abbrev pub ofHeader : ℕ → ℕ → Bool
+ofHeader envelope number = both (eqb envelope 1) (among (withRoom inHeader) number)
+
+-- the header's, which needs no room, or those of envelope k, with these numbers
+abbrev pub ofBeside : ℕ → List ℕ → ℕ → ℕ → Bool
+ofBeside k numbers envelope number = pick (eqb envelope 1) (among inHeader number) (both (eqb envelope k) (among (withRoom numbers) number))
+
+-- an acceptance, which has neither envelope nor number, or one of these refusals
+abbrev pub possible : (ℕ → ℕ → Bool) → Outcome → Bool
+possible refusals o = pick (isAccepted o) (eqb (o .number) 0) (refusals (o .envelope) (o .number))
+
+-- an outcome that is possible, which its one number tells: 0 for acceptance alone, and else the envelope times 256 and the number
+pub record Told (refusals : ℕ → ℕ → Bool) (o : Outcome) : Type 0 where
+  pub isPossible : possible refusals o ≡ true
+  pub zero : eqb (codeOf o) 0 ≡ isAccepted o
+  pub envelope : codeOf o / 256 ≡ o .envelope
+  pub number : codeOf o % 256 ≡ o .number
+
+-- every call of each reader
+
+unfoldable pub HeaderRefusals : Type 0
+HeaderRefusals =
+    (e f₀ f c₀ c a₀ a : List ℕ) (r : HeaderAnswer) → Answered (headerOf e) f₀ f c₀ c a₀ a r → Told ofHeader (outcomeOf r)
+
+unfoldable pub FooterRefusals : Type 0
+FooterRefusals =
+    (e g : List ℕ) (file : ℕ) (c₀ c m₀ m : List ℕ) (r : FooterAnswer) → AnsweredFooter (footerBeside e g file) c₀ c m₀ m r
+    → Told (ofBeside 2 inFooter) (footerOutcome r)
+
+unfoldable pub PageListRefusals : Type 0
+PageListRefusals =
+    (e l : List ℕ) (entries file : ℕ) (p₀ p : List ℕ) (r : PageListAnswer) → AnsweredPages (pageListBeside e l entries file) p₀ p r
+    → Told (ofBeside 3 inPageList) (pageListOutcome r)

@@ -1,0 +1,1 @@
+// Which refusals each reader can give: theorems only (specs/ and proofs/).

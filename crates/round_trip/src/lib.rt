@@ -1,0 +1,1 @@
+// What one page call leaves, the other reads back. The crate has no code.

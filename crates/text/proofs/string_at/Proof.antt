@@ -1,0 +1,88 @@
+use Prim.Native.Nat.{_+_, _-_}
+use mathlib.Core.Path.{_≡_}
+use native.Mathlib.Omega.{arith}
+use Rattle.text.specs.Strings.{string}
+use borrow.Author.Needs.{needs}
+use Rattle.text.proofs.string_at.Statement.{statement}
+use Rattle.text.proofs.string_at.Tie as tie
+
+has-room-requires : tie.Need-has-room-requires
+has-room-requires c κs = search needs
+
+add-from : tie.Need-add-from
+add-from c = omega (arith, c .before .has-room .ensures .fits (c .if1 .taken))
+
+little-4-requires : tie.Need-little-4-requires
+little-4-requires c κs = search needs
+
+has-room-requires-2 : tie.Need-has-room-requires-2
+has-room-requires-2 c κs = search needs
+
+add-to : tie.Need-add-to
+add-to c = omega (arith, c .before .has-room2 .ensures .fits (c .if2 .taken))
+
+sub-all-ascii : tie.Need-sub-all-ascii
+sub-all-ascii c = search needs
+
+part-all-ascii-start : tie.Need-part-all-ascii-start
+part-all-ascii-start c = search needs
+
+part-all-ascii-end : tie.Need-part-all-ascii-end
+part-all-ascii-end c = omega (arith, c .before .has-room2 .ensures .fits (c .if2 .taken))
+
+all-ascii-requires : tie.Need-all-ascii-requires
+all-ascii-requires c κs = search needs
+
+returns : tie.Need-returns
+unfolding string
+returns c =
+    let from = c .before .before .before .before .before .before .before .before .before .args .at + 4 in
+    let len = c .before .before .before .before .before .little-4 .result in
+    let e : from + len - from ≡ len = omega arith in
+    simp (← c .before .before .before .before .before .before .before .has-room .ensures .is, c .before .before .before .before .before .before .if1 .taken, ← (c .before .before .before .before .before .little-4 .ensures .0 .there (c .before .before .before .before .before .before .before .has-room .ensures .fits (c .before .before .before .before .before .before .if1 .taken))), ← c .before .before .before .before .has-room2 .ensures .is, c .before .before .before .if2 .taken, ← (rw e at (c .before .all-ascii .ensures)), c .if3 .taken)
+
+fault-at-requires : tie.Need-fault-at-requires
+fault-at-requires c κs = search needs
+
+returns-2 : tie.Need-returns-2
+unfolding string
+returns-2 c =
+    let from = c .before .before .before .before .before .before .before .before .before .before .args .at + 4 in
+    let len = c .before .before .before .before .before .before .little-4 .result in
+    let e : from + len - from ≡ len = omega arith in
+    simp (← c .before .before .before .before .before .before .before .before .has-room .ensures .is, c .before .before .before .before .before .before .before .if1 .taken, ← (c .before .before .before .before .before .before .little-4 .ensures .0 .there (c .before .before .before .before .before .before .before .before .has-room .ensures .fits (c .before .before .before .before .before .before .before .if1 .taken))), ← c .before .before .before .before .before .has-room2 .ensures .is, c .before .before .before .before .if2 .taken, ← (rw e at (c .before .before .all-ascii .ensures)), c .before .if3 .left, c .fault-at .ensures)
+
+fault-at-requires-2 : tie.Need-fault-at-requires-2
+fault-at-requires-2 c κs = search needs
+
+returns-3 : tie.Need-returns-3
+unfolding string
+returns-3 c = simp (← c .before .before .before .before .before .has-room .ensures .is, c .before .before .before .before .if1 .taken, ← (c .before .before .before .little-4 .ensures .0 .there (c .before .before .before .before .before .has-room .ensures .fits (c .before .before .before .before .if1 .taken))), ← c .before .before .has-room2 .ensures .is, c .before .if2 .left, c .fault-at2 .ensures)
+
+fault-at-requires-3 : tie.Need-fault-at-requires-3
+fault-at-requires-3 c κs = search needs
+
+returns-4 : tie.Need-returns-4
+unfolding string
+returns-4 c = simp (← c .before .before .has-room .ensures .is, c .before .if1 .left, c .fault-at3 .ensures)
+
+pub string-at-spec : {M : Type 1} → statement M
+string-at-spec =
+    tie.close
+    (tie.spec
+    has-room-requires
+    add-from
+    little-4-requires
+    has-room-requires-2
+    add-to
+    sub-all-ascii
+    part-all-ascii-start
+    part-all-ascii-end
+    all-ascii-requires
+    returns
+    fault-at-requires
+    returns-2
+    fault-at-requires-2
+    returns-3
+    fault-at-requires-3
+    returns-4)
