@@ -71,17 +71,40 @@ def fields_header(version, spare):
     return envelope(payload, version)
 
 
+def link(size, offset):
+    return struct.pack("<IIQ", size, size, offset)
+
+
+def page(elements, bits, offset, checksum=False):
+    return struct.pack("<IIQ", elements | checksum << 30, (elements * bits + 7) // 8, offset)
+
+
 def flipped(content, place):
     return content[:place] + bytes([content[place] ^ 0x01]) + content[place + 1:]
 
 
 FIELDS_HEADER = fields_header(1, b"")
 
+# Three entries with five hits in all, in a file of 4,096 bytes: its pages, then its page list.
+FIELDS_PAGE_LIST = envelope(items([
+    items([page(3, 32, 64, checksum=True)]),
+    items([page(3, 32, 128)]),
+    items([page(2, 32, 192), page(3, 32, 200)]),
+    items([page(9, 64, 256)]),
+]))
+
+FIELDS_FOOTER = envelope(
+    FEATURES + FIELDS_HEADER[-4:] + items([]) * 2
+    + items([record(struct.pack("<QQ", 0, 3) + link(len(FIELDS_PAGE_LIST), 512))])
+    + items([link(16, 4080)]))
+
 EXAMPLES = {
     "smallest.header": SMALLEST_HEADER,
     "smallest.footer": SMALLEST_FOOTER,
     "smallest.pagelist": SMALLEST_PAGE_LIST,
     "fields.header": FIELDS_HEADER,
+    "fields.footer": FIELDS_FOOTER,
+    "fields.pagelist": FIELDS_PAGE_LIST,
     "newer.header": fields_header(2, b"new"),
     "damaged.header": flipped(FIELDS_HEADER, 16),
 }

@@ -4,8 +4,11 @@
  * between calls.
  *
  * Every pointer is followed by its number of elements (bytes for uint8_t,
- * words for uint64_t). The lent memories of one call must not overlap, and no
- * call writes outside of what it was lent.
+ * words for uint64_t). Where that number is 0 the pointer may be NULL, or any
+ * other: nothing is read or written through it. Where it is not 0 the pointer
+ * points to so many elements. The memory that a call may write must not
+ * overlap any other that it was lent, and no call writes outside of what it
+ * was lent.
  *
  * Answers. 0 is accepted. A refusal is envelope * 256 + number, the envelope
  * being 1 header, 2 footer, 3 page list or 4 page, and the number:

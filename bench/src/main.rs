@@ -1,4 +1,5 @@
-//! The library beside zlib, plain C, plain Rust and the independent reader.
+//! The library beside the fastest of zlib, plain C, plain Rust and the
+//! independent reader, and beside memcpy of what it writes.
 
 use differential::generate::random::Random;
 use differential::reference::pages::stored_bits;
@@ -12,7 +13,7 @@ const ELEMENTS: usize = 131_072;
 const SWITCH: u32 = 3;
 
 /// Each contestant runs this many times at least, in turn with the others.
-const ROUNDS: usize = 40;
+const ROUNDS: usize = 200;
 
 /// A round of one contestant takes about this long.
 const ROUND_SECONDS: f64 = 0.000_2;
@@ -44,6 +45,18 @@ fn page_bytes(column_type: u32) -> usize {
     (ELEMENTS * usize::from(stored_bits(column_type).expect("a known type"))).div_ceil(8)
 }
 
+/// Something that is measured: a name, and what it does to lent memory.
+type Contestant<'a, T> = (&'static str, &'a dyn Fn(&mut T));
+
+/// The best times of one call.
+struct Times {
+    ours: f64,
+    /// The fastest of the others.
+    other: (&'static str, f64),
+    /// A plain copy of as many bytes as the library writes.
+    copy: f64,
+}
+
 fn seconds(repeats: usize, contestant: &mut dyn FnMut()) -> f64 {
     let start = Instant::now();
     for _ in 0..repeats {
@@ -52,32 +65,63 @@ fn seconds(repeats: usize, contestant: &mut dyn FnMut()) -> f64 {
     start.elapsed().as_secs_f64() / repeats as f64
 }
 
-/// The best time of one call of each contestant, who take turns.
-fn contest<const K: usize>(mut contestants: [&mut dyn FnMut(); K]) -> [f64; K] {
-    let once = contestants
-        .iter_mut()
-        .map(|contestant| seconds(1, contestant))
-        .fold(0.0, f64::max);
-    let repeats = ((ROUND_SECONDS / once) as usize).max(1);
-    let mut best = [f64::INFINITY; K];
-    for _ in 0..ROUNDS {
-        for (best, contestant) in best.iter_mut().zip(&mut contestants) {
-            *best = best.min(seconds(repeats, contestant));
-        }
+/// The best times of the library and of the others, who take turns on the
+/// same lent memory and must leave the same in it. The library writes so many
+/// bytes.
+fn contest<T: Clone + PartialEq>(
+    lent: &mut T,
+    ours: &dyn Fn(&mut T),
+    others: &[Contestant<T>],
+    written: usize,
+) -> Times {
+    let blank = lent.clone();
+    ours(lent);
+    for (name, other) in others {
+        let mut theirs = blank.clone();
+        other(&mut theirs);
+        assert!(theirs == *lent, "{name} leaves something else");
     }
-    best
+    // Half a memory page apart, so that no load waits for the store before it.
+    let mut bytes = vec![1u8; 2 * written + 3 * 4_096];
+    let start = bytes.as_ptr().align_offset(4_096);
+    let (source, target) = bytes[start..].split_at_mut(written.next_multiple_of(4_096) + 2_048);
+    let (source, target) = (&source[..written], &mut target[..written]);
+
+    let calls: Vec<&dyn Fn(&mut T)> = [ours]
+        .into_iter()
+        .chain(others.iter().map(|(_, other)| *other))
+        .collect();
+    let repeats = |call: &mut dyn FnMut()| ((ROUND_SECONDS / seconds(1, call)) as usize).max(1);
+    let call_repeats: Vec<usize> = calls.iter().map(|call| repeats(&mut || call(lent))).collect();
+    let mut copying = || black_box(&mut *target).copy_from_slice(black_box(source));
+    let copy_repeats = repeats(&mut copying);
+    let (mut best, mut copy) = (vec![f64::INFINITY; calls.len()], f64::INFINITY);
+    for _ in 0..ROUNDS {
+        for ((best, &repeats), call) in best.iter_mut().zip(&call_repeats).zip(&calls) {
+            *best = best.min(seconds(repeats, &mut || call(black_box(lent))));
+        }
+        copy = copy.min(seconds(copy_repeats, &mut copying));
+    }
+    let names = others.iter().map(|(name, _)| *name);
+    let other = names.zip(best[1..].iter().copied()).min_by(|a, b| a.1.total_cmp(&b.1));
+    Times {
+        ours: best[0],
+        other: other.expect("somebody else"),
+        copy,
+    }
 }
 
-/// One line of the table: the library's speed, then how many times as fast it
-/// is as each of the others.
-fn line(name: &str, speed: String, zlib: Option<f64>, c: Option<f64>, rust: Option<f64>) {
-    let ratio = |ratio: Option<f64>| ratio.map_or("-".to_string(), |ratio| format!("{ratio:.2}"));
-    println!(
-        "{name:<28} {speed:>16} {:>8} {:>8} {:>8}",
-        ratio(zlib),
-        ratio(c),
-        ratio(rust)
-    );
+/// One line of the table: the library's speed, who is the fastest of the
+/// others, and their times and a copy's as parts of the library's.
+fn line(name: &str, speed: String, times: &Times, writes: bool) {
+    let (other, seconds) = times.other;
+    let copy = if writes {
+        format!("{:.2}", times.copy / times.ours)
+    } else {
+        "-".to_string()
+    };
+    let ratio = seconds / times.ours;
+    println!("{name:<26} {speed:>16} {other:>10} {ratio:>7.2} {copy:>8}");
 }
 
 fn gigabytes(bytes: usize, seconds: f64) -> String {
@@ -91,93 +135,65 @@ fn per_element(seconds: f64) -> String {
 fn checksums(random: &mut Random) {
     for (name, length) in [("64 B", 64), ("1 KiB", 1_024), ("64 KiB", 65_536), ("1 MiB", 1_048_576)] {
         let bytes = random.bytes(length);
-        assert_eq!(calls::crc32(&bytes), zlib_crc32(&bytes), "crc32 of {name}");
-        assert_eq!(calls::crc32(&bytes), reference::crc::crc32(&bytes), "crc32 of {name}");
-        let [ours, zlib, rust] = contest([
-            &mut || {
-                black_box(calls::crc32(black_box(&bytes)));
-            },
-            &mut || {
-                black_box(zlib_crc32(black_box(&bytes)));
-            },
-            &mut || {
-                black_box(reference::crc::crc32(black_box(&bytes)));
-            },
-        ]);
-        line(
-            &format!("crc32 {name}"),
-            gigabytes(length, ours),
-            Some(zlib / ours),
-            None,
-            Some(rust / ours),
+        let times = contest(
+            &mut 0,
+            &|sum| *sum = calls::crc32(black_box(&bytes)),
+            &[
+                ("zlib", &|sum| *sum = zlib_crc32(black_box(&bytes))),
+                ("Rust", &|sum| *sum = reference::crc::crc32(black_box(&bytes))),
+            ],
+            0,
         );
+        line(&format!("crc32 {name}"), gigabytes(length, times.ours), &times, false);
     }
 }
 
 fn pages(random: &mut Random) {
-    let (mut by_us, mut by_c, mut by_rust) = (vec![0; ELEMENTS], vec![0; ELEMENTS], vec![0; ELEMENTS]);
+    let count = ELEMENTS as u64;
+    let mut words = vec![0; ELEMENTS];
     for column_type in (1..=28).filter(|&column_type| column_type != SWITCH) {
         let size = page_bytes(column_type);
         let page = random.bytes(size);
-        let count = ELEMENTS as u64;
-        let [ours, c, rust] = contest([
-            &mut || {
-                assert_eq!(
-                    calls::decode_page(column_type, count, 0, black_box(&page), &mut by_us, 0),
-                    0
-                )
-            },
-            &mut || c_decode(column_type, black_box(&page), &mut by_c),
-            &mut || {
-                assert_eq!(
-                    reference::decode_page(column_type, count, false, black_box(&page), &mut by_rust, 0),
-                    0
-                )
-            },
-        ]);
-        assert!(
-            by_us == by_c && by_us == by_rust,
-            "decoded pages of type {column_type:02X} differ"
+        let times = contest(
+            &mut words,
+            &|words| assert_eq!(calls::decode_page(column_type, count, 0, &page, words, 0), 0),
+            &[
+                ("C", &|words| c_decode(column_type, &page, words)),
+                ("Rust", &|words| {
+                    assert_eq!(reference::decode_page(column_type, count, false, &page, words, 0), 0)
+                }),
+            ],
+            8 * ELEMENTS,
         );
         line(
             &format!("decode {column_type:02X}"),
-            per_element(ours),
-            None,
-            Some(c / ours),
-            Some(rust / ours),
+            per_element(times.ours),
+            &times,
+            true,
         );
 
-        let words = &by_us;
-        let (mut from_us, mut from_c, mut from_rust) = (vec![0; size], vec![0; size], vec![0; size]);
-        let mut result = [0];
-        let [ours, c, rust] = contest([
-            &mut || {
-                let words = black_box(words);
-                assert_eq!(
-                    calls::encode_page(column_type, count, 0, words, 0, &mut from_us, &mut result),
-                    0
-                )
+        let mut encoded = vec![0; size];
+        let times = contest(
+            &mut encoded,
+            &|page| {
+                let mut result = [0];
+                let answer = calls::encode_page(column_type, count, 0, &words, 0, page, &mut result);
+                assert_eq!((answer, result), (0, [size as u64]));
             },
-            &mut || assert_eq!(c_encode(column_type, black_box(words), &mut from_c), 0),
-            &mut || {
-                let words = black_box(words);
-                assert_eq!(
-                    reference::encode_page(column_type, count, false, words, 0, &mut from_rust).0,
-                    0
-                )
-            },
-        ]);
-        assert!(
-            from_us == page && from_c == page && from_rust == page,
-            "encoded pages of type {column_type:02X} differ"
+            &[
+                ("C", &|page| assert_eq!(c_encode(column_type, &words, page), 0)),
+                ("Rust", &|page| {
+                    assert_eq!(reference::encode_page(column_type, count, false, &words, 0, page).0, 0)
+                }),
+            ],
+            size,
         );
-        assert_eq!(result, [size as u64]);
+        assert!(encoded == page, "type {column_type:02X} does not come back");
         line(
             &format!("encode {column_type:02X}"),
-            per_element(ours),
-            None,
-            Some(c / ours),
-            Some(rust / ours),
+            per_element(times.ours),
+            &times,
+            true,
         );
     }
 }
@@ -234,34 +250,25 @@ fn smallest_header() -> Vec<u8> {
 
 fn headers(random: &mut Random) {
     let envelope = largest_header(random);
-    let tables = || (vec![0; 512 * 15], vec![0; 1_024 * 4], vec![0; 256 * 2]);
-    let (mut ours, mut theirs) = (tables(), tables());
-    let (mut result, mut expected) = ([0; 7], [0; 7]);
-    let [our_time, rust] = contest([
-        &mut || {
-            let (fields, columns, aliases) = &mut ours;
-            assert_eq!(
-                calls::read_header(black_box(&envelope), fields, columns, aliases, &mut result),
-                0
-            );
+    let mut tables = (vec![0; 512 * 15], vec![0; 1_024 * 4], vec![0; 256 * 2], [0; 7]);
+    let times = contest(
+        &mut tables,
+        &|(fields, columns, aliases, result)| {
+            assert_eq!(calls::read_header(&envelope, fields, columns, aliases, result), 0);
         },
-        &mut || {
-            let (fields, columns, aliases) = &mut theirs;
-            let (answer, words) = reference::read_header(black_box(&envelope), fields, columns, aliases);
+        &[("Rust", &|(fields, columns, aliases, result)| {
+            let (answer, words) = reference::read_header(&envelope, fields, columns, aliases);
             assert_eq!(answer, 0);
-            expected = words;
-        },
-    ]);
-    assert!(
-        ours == theirs && result == expected && result[4..] == [512, 1_024, 256],
-        "headers read otherwise"
+            *result = words;
+        })],
+        8 * (512 * 15 + 1_024 * 4 + 256 * 2),
     );
+    assert_eq!(tables.3[4..], [512, 1_024, 256]);
     line(
         "read header, largest",
-        gigabytes(envelope.len(), our_time),
-        None,
-        None,
-        Some(rust / our_time),
+        gigabytes(envelope.len(), times.ours),
+        &times,
+        true,
     );
 }
 
@@ -288,36 +295,25 @@ fn footers(random: &mut Random) {
     let mut writer = Writer::default();
     writer.footer(&footer);
     let footer = writer.bytes;
-    let tables = || (vec![0; 1_024 * 4], vec![0; 64 * 2]);
-    let (mut ours, mut theirs) = (tables(), tables());
-    let (mut result, mut expected) = ([0; 2], [0; 2]);
-    let [our_time, rust] = contest([
-        &mut || {
-            let (clusters, metadata) = &mut ours;
-            let footer = black_box(&footer);
+    let mut tables = (vec![0; 1_024 * 4], vec![0; 64 * 2], [0; 2]);
+    let times = contest(
+        &mut tables,
+        &|(clusters, metadata, result)| {
             assert_eq!(
-                calls::read_footer(&header, footer, file_length, clusters, metadata, &mut result),
+                calls::read_footer(&header, &footer, file_length, clusters, metadata, result),
                 0
             );
         },
-        &mut || {
-            let (clusters, metadata) = &mut theirs;
-            let (answer, words) = reference::read_footer(&header, black_box(&footer), file_length, clusters, metadata);
+        &[("Rust", &|(clusters, metadata, result)| {
+            let (answer, words) = reference::read_footer(&header, &footer, file_length, clusters, metadata);
             assert_eq!(answer, 0);
-            expected = words;
-        },
-    ]);
-    assert!(
-        ours == theirs && result == expected && result == [1_024, 64],
-        "footers read otherwise"
+            *result = words;
+        })],
+        8 * (1_024 * 4 + 64 * 2),
     );
-    line(
-        "read footer, largest",
-        gigabytes(header.len() + footer.len(), our_time),
-        None,
-        None,
-        Some(rust / our_time),
-    );
+    assert_eq!(tables.2, [1_024, 64]);
+    let bytes = header.len() + footer.len();
+    line("read footer, largest", gigabytes(bytes, times.ours), &times, true);
 }
 
 fn page_lists(random: &mut Random) {
@@ -360,35 +356,25 @@ fn page_lists(random: &mut Random) {
     writer.page_list(&list);
     let list = writer.bytes;
     let entries = 256 * 10_000;
-    let (mut ours, mut theirs) = (vec![0; 16_384 * 5], vec![0; 16_384 * 5]);
-    let (mut result, mut expected) = ([0; 1], [0; 1]);
-    let [our_time, rust] = contest([
-        &mut || {
-            let list = black_box(&list);
+    let mut tables = (vec![0; 16_384 * 5], [0; 1]);
+    let times = contest(
+        &mut tables,
+        &|(pages, result)| {
             assert_eq!(
-                calls::read_page_list(&header, list, entries, file_length, &mut ours, &mut result),
+                calls::read_page_list(&header, &list, entries, file_length, pages, result),
                 0
             );
         },
-        &mut || {
-            let (answer, words) =
-                reference::read_page_list(&header, black_box(&list), entries, file_length, &mut theirs);
+        &[("Rust", &|(pages, result)| {
+            let (answer, words) = reference::read_page_list(&header, &list, entries, file_length, pages);
             assert_eq!(answer, 0);
-            expected = words;
-        },
-    ]);
-    assert!(
-        ours == theirs && result == expected && result == [16_384],
-        "page lists read otherwise"
+            *result = words;
+        })],
+        8 * 16_384 * 5,
     );
+    assert_eq!(tables.1, [16_384]);
     let bytes = header.len() + list.len();
-    line(
-        "read page list, largest",
-        gigabytes(bytes, our_time),
-        None,
-        None,
-        Some(rust / our_time),
-    );
+    line("read page list, largest", gigabytes(bytes, times.ours), &times, true);
 }
 
 fn main() -> ExitCode {
@@ -396,16 +382,25 @@ fn main() -> ExitCode {
         eprintln!("nothing to measure: built with RNT_LIB=none, without the library");
         return ExitCode::from(2);
     }
+    println!("Best of {ROUNDS} rounds in which all take turns on the same buffers, which are not cleared; results are compared.");
     println!(
-        "How many times as fast the library is (above 1: it is faster), best of {ROUNDS} rounds in which all take"
+        "\"fastest other\" is the fastest of: zlib and Rust slicing by 16 for crc32; plain C and plain Rust loops for"
     );
-    println!("turns. Results are compared in the same run. Buffers are reused and not cleared between rounds.");
-    println!("Pages have {ELEMENTS} elements and no checksum. Rust: plain loops for pages, slicing by 16 for crc32,");
-    println!("the independent reader for envelopes. A reader's bytes are those of all envelopes it reads.");
-    println!();
     println!(
-        "{:<28} {:>16} {:>8} {:>8} {:>8}",
-        "", "library", "/ zlib", "/ C", "/ Rust"
+        "pages; the independent Rust reader for envelopes. \"ratio\" is its time as a part of the library's: above 1"
+    );
+    println!(
+        "the library is faster. \"memcpy\" is that of copying as many bytes as the library writes, which is about the"
+    );
+    println!(
+        "limit; it reads as many, a decoder of narrow elements fewer. Pages have {ELEMENTS} elements and no checksum."
+    );
+    println!("A reader's bytes are those of all envelopes it reads.");
+    println!();
+    println!("{:<26} {:>16} {:>10}", "", "", "fastest");
+    println!(
+        "{:<26} {:>16} {:>10} {:>7} {:>8}",
+        "", "library", "other", "ratio", "memcpy"
     );
     let mut random = Random::new(1);
     checksums(&mut random);

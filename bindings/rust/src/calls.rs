@@ -1,0 +1,255 @@
+//! The C calls with slices for pointers and lengths.
+
+use crate::refusal::Refusal;
+use crate::rows::{text, Alias, Cluster, Column, Field, Link, Page, Table};
+
+mod c {
+    extern "C" {
+        pub fn rnt_read_header(
+            envelope: *const u8,
+            envelope_length: usize,
+            fields: *mut u64,
+            field_words: usize,
+            columns: *mut u64,
+            column_words: usize,
+            aliases: *mut u64,
+            alias_words: usize,
+            result: *mut u64,
+            result_words: usize,
+        ) -> u32;
+        pub fn rnt_read_footer(
+            header: *const u8,
+            header_length: usize,
+            footer: *const u8,
+            footer_length: usize,
+            file_length: u64,
+            clusters: *mut u64,
+            cluster_words: usize,
+            metadata: *mut u64,
+            metadata_words: usize,
+            result: *mut u64,
+            result_words: usize,
+        ) -> u32;
+        pub fn rnt_read_page_list(
+            header: *const u8,
+            header_length: usize,
+            page_list: *const u8,
+            page_list_length: usize,
+            entries: u64,
+            file_length: u64,
+            pages: *mut u64,
+            page_words: usize,
+            result: *mut u64,
+            result_words: usize,
+        ) -> u32;
+        pub fn rnt_decode_page(
+            column_type: u32,
+            elements: u64,
+            checksum: u32,
+            page: *const u8,
+            page_length: usize,
+            words: *mut u64,
+            word_count: usize,
+            start: u64,
+        ) -> u32;
+        pub fn rnt_encode_page(
+            column_type: u32,
+            elements: u64,
+            checksum: u32,
+            words: *const u64,
+            word_count: usize,
+            start: u64,
+            page: *mut u8,
+            page_room: usize,
+            result: *mut u64,
+            result_words: usize,
+        ) -> u32;
+        pub fn rnt_crc32(bytes: *const u8, length: usize) -> u32;
+    }
+}
+
+// Every call below passes each slice's own pointer and length. What is written
+// is lent by `&mut`, so that it overlaps nothing else. An empty slice has a
+// pointer that the library does not use.
+
+fn accepted(answer: u32) -> Result<(), Refusal> {
+    Refusal::of(answer).map_or(Ok(()), Err)
+}
+
+/// An accepted header: its texts, and the rows that were read.
+#[derive(Clone, Copy, Debug)]
+pub struct Header<'a> {
+    pub name: &'a str,
+    pub description: &'a str,
+    pub fields: Table<'a, Field<'a>>,
+    pub columns: Table<'a, Column>,
+    pub aliases: Table<'a, Alias>,
+}
+
+/// Reads a header into lent tables, whose rows have 15, 4 and 2 words.
+pub fn read_header<'a>(
+    envelope: &'a [u8],
+    fields: &'a mut [u64],
+    columns: &'a mut [u64],
+    aliases: &'a mut [u64],
+) -> Result<Header<'a>, Refusal> {
+    let mut result = [0; 7];
+    // SAFETY: see above.
+    accepted(unsafe {
+        c::rnt_read_header(
+            envelope.as_ptr(),
+            envelope.len(),
+            fields.as_mut_ptr(),
+            fields.len(),
+            columns.as_mut_ptr(),
+            columns.len(),
+            aliases.as_mut_ptr(),
+            aliases.len(),
+            result.as_mut_ptr(),
+            result.len(),
+        )
+    })?;
+    Ok(Header {
+        name: text(envelope, result[0], result[1]),
+        description: text(envelope, result[2], result[3]),
+        fields: Table::first(result[4], fields, envelope),
+        columns: Table::first(result[5], columns, envelope),
+        aliases: Table::first(result[6], aliases, envelope),
+    })
+}
+
+/// An accepted footer: the rows that were read.
+#[derive(Clone, Copy, Debug)]
+pub struct Footer<'a> {
+    pub clusters: Table<'a, Cluster>,
+    pub metadata: Table<'a, Link>,
+}
+
+/// Reads a footer under its header, for a file of this length, into lent
+/// tables, whose rows have 4 and 2 words.
+pub fn read_footer<'a>(
+    header: &[u8],
+    footer: &[u8],
+    file_length: u64,
+    clusters: &'a mut [u64],
+    metadata: &'a mut [u64],
+) -> Result<Footer<'a>, Refusal> {
+    let mut result = [0; 2];
+    // SAFETY: see above.
+    accepted(unsafe {
+        c::rnt_read_footer(
+            header.as_ptr(),
+            header.len(),
+            footer.as_ptr(),
+            footer.len(),
+            file_length,
+            clusters.as_mut_ptr(),
+            clusters.len(),
+            metadata.as_mut_ptr(),
+            metadata.len(),
+            result.as_mut_ptr(),
+            result.len(),
+        )
+    })?;
+    Ok(Footer {
+        clusters: Table::first(result[0], clusters, &[]),
+        metadata: Table::first(result[1], metadata, &[]),
+    })
+}
+
+/// An accepted page list: the rows that were read, column by column.
+#[derive(Clone, Copy, Debug)]
+pub struct PageList<'a> {
+    pub pages: Table<'a, Page>,
+}
+
+/// Reads the page list of a cluster with so many entries, under its header,
+/// for a file of this length, into a lent table, whose rows have 5 words.
+pub fn read_page_list<'a>(
+    header: &[u8],
+    page_list: &[u8],
+    entries: u64,
+    file_length: u64,
+    pages: &'a mut [u64],
+) -> Result<PageList<'a>, Refusal> {
+    let mut result = [0; 1];
+    // SAFETY: see above.
+    accepted(unsafe {
+        c::rnt_read_page_list(
+            header.as_ptr(),
+            header.len(),
+            page_list.as_ptr(),
+            page_list.len(),
+            entries,
+            file_length,
+            pages.as_mut_ptr(),
+            pages.len(),
+            result.as_mut_ptr(),
+            result.len(),
+        )
+    })?;
+    Ok(PageList {
+        pages: Table::first(result[0], pages, &[]),
+    })
+}
+
+/// Decodes a page, which includes its checksum where one follows, into the
+/// lent words from `start` on, and gives that part of them.
+pub fn decode_page<'a>(
+    column_type: u16,
+    elements: usize,
+    checksum: bool,
+    page: &[u8],
+    words: &'a mut [u64],
+    start: usize,
+) -> Result<&'a mut [u64], Refusal> {
+    // SAFETY: see above.
+    accepted(unsafe {
+        c::rnt_decode_page(
+            column_type.into(),
+            elements as u64,
+            checksum.into(),
+            page.as_ptr(),
+            page.len(),
+            words.as_mut_ptr(),
+            words.len(),
+            start as u64,
+        )
+    })?;
+    Ok(&mut words[start..][..elements])
+}
+
+/// Encodes so many elements, from `start` on, into the first bytes of the lent
+/// page, with its checksum where one is asked for, and gives the bytes written.
+pub fn encode_page<'a>(
+    column_type: u16,
+    elements: usize,
+    checksum: bool,
+    words: &[u64],
+    start: usize,
+    page: &'a mut [u8],
+) -> Result<&'a mut [u8], Refusal> {
+    let mut result = [0; 1];
+    // SAFETY: see above.
+    accepted(unsafe {
+        c::rnt_encode_page(
+            column_type.into(),
+            elements as u64,
+            checksum.into(),
+            words.as_ptr(),
+            words.len(),
+            start as u64,
+            page.as_mut_ptr(),
+            page.len(),
+            result.as_mut_ptr(),
+            result.len(),
+        )
+    })?;
+    Ok(&mut page[..result[0] as usize])
+}
+
+/// The CRC-32 of envelopes and pages.
+pub fn crc32(bytes: &[u8]) -> u32 {
+    // SAFETY: see above.
+    unsafe { c::rnt_crc32(bytes.as_ptr(), bytes.len()) }
+}

@@ -1,0 +1,47 @@
+//! Safe functions over the proved checker of RNTuple archives: slices in, rows
+//! or a refusal out.
+//!
+//! The functions of this crate take the memory that is written as slices, as
+//! the library does. [`HeaderRoom`], [`FooterRoom`], [`PageListRoom`],
+//! [`decode`] and [`encode`] make that memory, of a size that is never too small.
+//!
+//! ```
+//! use rntuple_check::{HeaderRoom, Reason};
+//!
+//! let envelope = include_bytes!("../../../examples/fields.header");
+//! let mut room = HeaderRoom::full();
+//! let header = room.read(envelope)?;
+//! assert_eq!(header.name, "events");
+//! assert_eq!(header.fields.len(), 5);
+//! assert_eq!(header.fields.get(0).unwrap().name, "energy");
+//!
+//! let refusal = room.read(b"no header").unwrap_err();
+//! assert_eq!(refusal.reason, Reason::ChecksumDiffers);
+//! assert_eq!(refusal.to_string(), "header refused 3: checksum differs");
+//! # Ok::<(), rntuple_check::Refusal>(())
+//! ```
+//!
+//! What is proved is the library: its answers and all that it writes. This
+//! crate is tested. The rules are in `docs/PROFILE.md`.
+
+mod calls;
+mod refusal;
+mod room;
+mod rows;
+
+pub use calls::{crc32, decode_page, encode_page, read_footer, read_header, read_page_list, Footer, Header, PageList};
+pub use refusal::{Envelope, Reason, Refusal};
+pub use room::{decode, encode, FooterRoom, HeaderRoom, PageListRoom};
+pub use rows::{Alias, Cluster, Column, ColumnNumber, Field, FieldNumber, Link, Page, Row, Table};
+
+/// The most rows that an accepted envelope can have, and the most elements of
+/// one page call.
+pub mod most {
+    pub const FIELDS: usize = 512;
+    pub const COLUMNS: usize = 1_024;
+    pub const ALIASES: usize = 256;
+    pub const CLUSTERS: usize = 1_024;
+    pub const LINKS: usize = 64;
+    pub const PAGES: usize = 16_384;
+    pub const ELEMENTS: usize = 131_072;
+}

@@ -1,0 +1,371 @@
+//! The calls from Rust: accepted, refused, too little room, pages both ways, and nothing lent.
+
+use rntuple_check::{
+    crc32, decode, decode_page, encode, encode_page, most, read_footer, read_header, read_page_list, Alias, Cluster,
+    Column, ColumnNumber, Envelope, FieldNumber, FooterRoom, HeaderRoom, Link, Page, PageListRoom, Reason, Refusal,
+};
+
+const FIELDS: &[u8] = include_bytes!("../../../examples/fields.header");
+const FIELDS_FOOTER: &[u8] = include_bytes!("../../../examples/fields.footer");
+const FIELDS_PAGE_LIST: &[u8] = include_bytes!("../../../examples/fields.pagelist");
+const NEWER: &[u8] = include_bytes!("../../../examples/newer.header");
+const DAMAGED: &[u8] = include_bytes!("../../../examples/damaged.header");
+const SMALLEST: &[u8] = include_bytes!("../../../examples/smallest.header");
+const SMALLEST_FOOTER: &[u8] = include_bytes!("../../../examples/smallest.footer");
+const SMALLEST_PAGE_LIST: &[u8] = include_bytes!("../../../examples/smallest.pagelist");
+
+/// What stands in lent memory before a call.
+const OLD: u64 = 0x0909_0909_0909_0909;
+
+fn refused(envelope: Envelope, reason: Reason) -> Refusal {
+    Refusal { envelope, reason }
+}
+
+fn envelope(payload: &[u8]) -> Vec<u8> {
+    let mut bytes = [&[1, 0, 1, 0], payload].concat();
+    let checksum = crc32(&bytes);
+    bytes.extend(checksum.to_le_bytes());
+    bytes
+}
+
+fn list(items: &[Vec<u8>]) -> Vec<u8> {
+    let body = items.concat();
+    let size = -(8 + body.len() as i32);
+    [&size.to_le_bytes()[..], &(items.len() as u32).to_le_bytes(), &body].concat()
+}
+
+fn record(body: &[u8]) -> Vec<u8> {
+    [&(4 + body.len() as u32).to_le_bytes(), body].concat()
+}
+
+fn locator(size: u32, offset: u64) -> Vec<u8> {
+    [&size.to_le_bytes()[..], &offset.to_le_bytes()].concat()
+}
+
+fn link(size: u32, offset: u64) -> Vec<u8> {
+    [&size.to_le_bytes()[..], &locator(size, offset)].concat()
+}
+
+fn cluster(first: u64, entries: u64, link: Vec<u8>) -> Vec<u8> {
+    record(&[&first.to_le_bytes()[..], &entries.to_le_bytes(), &link].concat())
+}
+
+/// A footer with two clusters and one metadata link, whose last range ends at byte 1,000 of the file.
+fn footer(header: &[u8]) -> Vec<u8> {
+    let clusters = [cluster(0, 3, link(10, 100)), cluster(3, 4, link(20, 980))];
+    let lists = [list(&[]), list(&[]), list(&clusters), list(&[link(5, 7)])].concat();
+    envelope(&[&[0; 8], &header[header.len() - 4..], &lists].concat())
+}
+
+/// A page list for FIELDS, with three entries: 11, 0F, 1B and 10 are its columns' types.
+fn page_list() -> Vec<u8> {
+    let page =
+        |elements: u32, size: u32, offset: u64| [elements.to_le_bytes().to_vec(), locator(size, offset)].concat();
+    envelope(&list(&[
+        list(&[page(2, 8, 40), page(1, 4, 50)]),
+        list(&[page(3 | 1 << 30, 12, 60)]),
+        list(&[]),
+        list(&[page(9, 72, 928)]),
+    ]))
+}
+
+#[test]
+fn a_header_is_read() {
+    let mut room = HeaderRoom::full();
+    let header = room.read(FIELDS).unwrap();
+    assert_eq!((header.name, header.description), ("events", "an example"));
+    assert_eq!(
+        (header.fields.len(), header.columns.len(), header.aliases.len()),
+        (5, 4, 1)
+    );
+    let names: Vec<_> = header
+        .fields
+        .iter()
+        .map(|field| (field.name, field.type_name, field.parent.0))
+        .collect();
+    assert_eq!(
+        names,
+        [
+            ("energy", "float", 0),
+            ("hits", "std::vector<std::int32_t>", 1),
+            ("_0", "std::int32_t", 1),
+            ("position", "std::array<double,3>", 3),
+            ("e", "float", 4)
+        ]
+    );
+    let position = header.fields.get(3).unwrap();
+    assert_eq!(
+        (position.role, position.flags, position.repetition, position.dark),
+        (0, 1, 3, false)
+    );
+    let column = Column {
+        column_type: 0x0F,
+        bits: 32,
+        field: FieldNumber(1),
+        flags: 0,
+    };
+    assert_eq!(header.columns.get(1), Some(column));
+    let alias = Alias {
+        column: ColumnNumber(0),
+        field: FieldNumber(4),
+    };
+    assert_eq!(header.aliases.iter().collect::<Vec<_>>(), [alias]);
+    assert_eq!(header.aliases.get(1), None);
+}
+
+#[test]
+fn a_newer_header_has_the_same_rows() {
+    let (mut room, mut newer_room) = (HeaderRoom::full(), HeaderRoom::full());
+    let (header, newer) = (room.read(FIELDS).unwrap(), newer_room.read(NEWER).unwrap());
+    assert_eq!((newer.name, newer.description), (header.name, header.description));
+    assert!(newer.fields.iter().eq(header.fields.iter()));
+    assert!(newer.columns.iter().eq(header.columns.iter()));
+    assert!(newer.aliases.iter().eq(header.aliases.iter()));
+}
+
+#[test]
+fn a_refusal_says_what_and_why() {
+    let refusal = HeaderRoom::full().read(DAMAGED).unwrap_err();
+    assert_eq!(refusal, refused(Envelope::Header, Reason::ChecksumDiffers));
+    assert_eq!(refusal.to_string(), "header refused 3: checksum differs");
+    let refusal = FooterRoom::full().read(FIELDS, SMALLEST_FOOTER, 0).unwrap_err();
+    assert_eq!(refusal, refused(Envelope::Footer, Reason::OtherHeader));
+    assert_eq!(
+        refusal.to_string(),
+        "footer refused 16: footer names another header checksum"
+    );
+    let refusal = PageListRoom::full().read(FIELDS, SMALLEST_PAGE_LIST, 0, 0).unwrap_err();
+    assert_eq!(refusal, refused(Envelope::PageList, Reason::CountsDisagree));
+    let refusal = decode(3, 0, false, &[]).unwrap_err();
+    assert_eq!(refusal.to_string(), "page refused 23: column type unknown, or Switch");
+}
+
+#[test]
+fn the_header_is_refused_first() {
+    let header = refused(Envelope::Header, Reason::ChecksumDiffers);
+    assert_eq!(FooterRoom::full().read(DAMAGED, b"", 0).unwrap_err(), header);
+    assert_eq!(PageListRoom::full().read(DAMAGED, b"", 0, 0).unwrap_err(), header);
+}
+
+#[test]
+fn every_number_has_a_reason() {
+    assert_eq!(Reason::ALL.len(), 25);
+    for (i, &reason) in Reason::ALL.iter().enumerate() {
+        assert_eq!(usize::from(reason.number()), i + 1);
+        assert_eq!(Reason::of(reason.number()), Some(reason));
+    }
+    assert_eq!((Reason::of(0), Reason::of(26)), (None, None));
+}
+
+#[test]
+fn room_for_the_rows_is_enough() {
+    let (mut fields, mut columns, mut aliases) = ([OLD; 6 * 15 - 1], [OLD; 4 * 4 + 1], [OLD; 2]);
+    let header = read_header(FIELDS, &mut fields, &mut columns, &mut aliases).unwrap();
+    assert_eq!(
+        (header.fields.len(), header.columns.len(), header.aliases.len()),
+        (5, 4, 1)
+    );
+    assert!(fields[5 * 15..]
+        .iter()
+        .chain(&columns[4 * 4..])
+        .all(|&word| word == OLD));
+}
+
+#[test]
+fn too_little_room_is_refused_and_nothing_is_written() {
+    for [field_words, column_words, alias_words] in [[74, 16, 2], [75, 15, 2], [75, 16, 1], [0, 0, 0]] {
+        let (mut fields, mut columns, mut aliases) =
+            (vec![OLD; field_words], vec![OLD; column_words], vec![OLD; alias_words]);
+        let refusal = read_header(FIELDS, &mut fields, &mut columns, &mut aliases).unwrap_err();
+        assert_eq!(refusal, refused(Envelope::Header, Reason::RoomTooSmall));
+        assert!(fields.iter().chain(&columns).chain(&aliases).all(|&word| word == OLD));
+    }
+    let (mut clusters, mut metadata) = ([OLD; 7], [OLD; 2]);
+    let refusal = read_footer(FIELDS, &footer(FIELDS), 1_000, &mut clusters, &mut metadata).unwrap_err();
+    assert_eq!(refusal, refused(Envelope::Footer, Reason::RoomTooSmall));
+    assert_eq!((clusters, metadata), ([OLD; 7], [OLD; 2]));
+    let mut pages = [OLD; 19];
+    let refusal = read_page_list(FIELDS, &page_list(), 3, 1_000, &mut pages).unwrap_err();
+    assert_eq!(refusal, refused(Envelope::PageList, Reason::RoomTooSmall));
+    assert_eq!(pages, [OLD; 19]);
+}
+
+#[test]
+fn a_footer_is_read() {
+    let mut room = FooterRoom::full();
+    let envelope = footer(FIELDS);
+    let footer = room.read(FIELDS, &envelope, 1_000).unwrap();
+    let page_list = |size, offset| Link { size, offset };
+    let clusters =
+        [(0, 3, page_list(10, 100)), (3, 4, page_list(20, 980))].map(|(first_entry, entries, page_list)| Cluster {
+            first_entry,
+            entries,
+            page_list,
+        });
+    assert_eq!(footer.clusters.iter().collect::<Vec<_>>(), clusters);
+    assert_eq!(footer.metadata.iter().collect::<Vec<_>>(), [page_list(5, 7)]);
+    let refusal = room.read(FIELDS, &envelope, 999).unwrap_err();
+    assert_eq!(refusal, refused(Envelope::Footer, Reason::OutsideFile));
+}
+
+#[test]
+fn a_page_list_is_read() {
+    let mut room = PageListRoom::full();
+    let list = room.read(FIELDS, &page_list(), 3, 1_000).unwrap();
+    let rows = [
+        (0, 2, false, 8, 40),
+        (0, 1, false, 4, 50),
+        (1, 3, true, 12, 60),
+        (3, 9, false, 72, 928),
+    ];
+    let rows = rows.map(|(column, elements, checksum, size, offset)| Page {
+        column: ColumnNumber(column),
+        elements,
+        checksum,
+        size,
+        offset,
+    });
+    assert_eq!(list.pages.iter().collect::<Vec<_>>(), rows);
+    let refusal = room.read(FIELDS, &page_list(), 4, 1_000).unwrap_err();
+    assert_eq!(refusal, refused(Envelope::PageList, Reason::CountsDisagree));
+}
+
+#[test]
+fn the_example_archive_hangs_together() {
+    let mut room = FooterRoom::full();
+    let cluster = room
+        .read(FIELDS, FIELDS_FOOTER, 4_096)
+        .unwrap()
+        .clusters
+        .get(0)
+        .unwrap();
+    assert_eq!(
+        (cluster.entries, cluster.page_list.size),
+        (3, FIELDS_PAGE_LIST.len() as u64)
+    );
+    let mut room = PageListRoom::full();
+    let list = room.read(FIELDS, FIELDS_PAGE_LIST, cluster.entries, 4_096).unwrap();
+    assert_eq!(list.pages.len(), 5);
+    let hits = list.pages.iter().filter(|page| page.column == ColumnNumber(2));
+    assert_eq!(hits.map(|page| page.elements).sum::<usize>(), 5);
+}
+
+#[test]
+fn the_smallest_are_read() {
+    assert!(HeaderRoom::full().read(SMALLEST).unwrap().fields.is_empty());
+    assert!(FooterRoom::full()
+        .read(SMALLEST, SMALLEST_FOOTER, 0)
+        .unwrap()
+        .clusters
+        .is_empty());
+    assert!(PageListRoom::full()
+        .read(SMALLEST, SMALLEST_PAGE_LIST, 0, 0)
+        .unwrap()
+        .pages
+        .is_empty());
+}
+
+#[test]
+fn pages_go_both_ways() {
+    for column_type in (1..=28).filter(|&column_type| column_type != 3) {
+        for checksum in [false, true] {
+            let bits = [1, 0, 0, 1, 1, 0, 1, 1, 0, 1, 1, 1, 0];
+            let page = encode(column_type, checksum, &bits).unwrap();
+            assert_eq!(
+                decode(column_type, bits.len(), checksum, &page).unwrap(),
+                bits,
+                "type {column_type:02X}"
+            );
+        }
+    }
+    assert_eq!(
+        encode(0x0F, false, &[1, 1, 3]).unwrap(),
+        [1, 0, 2, 0, 0, 0, 0, 0, 0, 0, 0, 0]
+    );
+    assert_eq!(
+        encode(0x12, false, &[0x1234, 0xABCD]).unwrap(),
+        [0x34, 0xCD, 0x12, 0xAB]
+    );
+    assert_eq!(encode(0x1C, false, &[0xFFFF]).unwrap(), [1, 0]);
+    assert_eq!(decode(0x06, 9, false, &[1, 1]).unwrap(), [1, 0, 0, 0, 0, 0, 0, 0, 1]);
+}
+
+#[test]
+fn a_page_is_written_to_its_part_alone() {
+    let mut words = [OLD; 5];
+    assert_eq!(decode_page(4, 2, false, &[7, 8], &mut words, 1).unwrap(), [7, 8]);
+    assert_eq!(words, [OLD, 7, 8, OLD, OLD]);
+    let mut page = [9; 8];
+    assert_eq!(encode_page(4, 2, true, &words, 1, &mut page).unwrap().len(), 6);
+    assert_eq!((&page[..2], &page[6..]), (&[7, 8][..], &[9, 9][..]));
+    assert_eq!(page[2..6], crc32(&[7, 8]).to_le_bytes());
+}
+
+#[test]
+fn a_refused_page_changes_nothing() {
+    let mut words = [OLD; 2];
+    let mut decoded = |column_type, elements, checksum, page: &[u8], start| {
+        let refusal = decode_page(column_type, elements, checksum, page, &mut words, start).unwrap_err();
+        assert_eq!((words, refusal.envelope), ([OLD; 2], Envelope::Page));
+        refusal.reason
+    };
+    assert_eq!(decoded(29, 1, false, &[7], 0), Reason::TypeNotRead);
+    assert_eq!(
+        decoded(4, most::ELEMENTS + 1, false, &[7], 0),
+        Reason::CountAboveCeiling
+    );
+    assert_eq!(decoded(4, 1, false, &[7, 7], 0), Reason::PageLength);
+    assert_eq!(decoded(4, 1, true, &[7, 0, 0, 0, 0], 0), Reason::PageChecksumDiffers);
+    assert_eq!(decoded(6, 9, false, &[1, 3], 0), Reason::UnusedBitsSet);
+    assert_eq!(decoded(4, 2, false, &[7, 7], 1), Reason::RoomTooSmall);
+    assert_eq!(decoded(4, 0, false, &[], usize::MAX), Reason::RoomTooSmall);
+    let mut page = [9; 4];
+    let mut encoded = |column_type, words: &[u64], start| {
+        let refusal = encode_page(column_type, 2, false, words, start, &mut page).unwrap_err();
+        assert_eq!((page, refusal.envelope), ([9; 4], Envelope::Page));
+        refusal.reason
+    };
+    assert_eq!(encoded(4, &[1, 256], 0), Reason::ElementTooWide);
+    assert_eq!(encoded(4, &[1, 2], 1), Reason::RoomTooSmall);
+    assert_eq!(encoded(1, &[1, 2], 0), Reason::RoomTooSmall);
+    assert_eq!(
+        decode(4, usize::MAX, false, &[]).unwrap_err().reason,
+        Reason::CountAboveCeiling
+    );
+    assert_eq!(
+        encode(1, true, &vec![0; most::ELEMENTS + 1]).unwrap_err().reason,
+        Reason::CountAboveCeiling
+    );
+    assert_eq!(
+        encode(1, true, &vec![0; most::ELEMENTS]).unwrap().len(),
+        8 * most::ELEMENTS + 4
+    );
+}
+
+#[test]
+fn nothing_may_be_lent() {
+    let too_short = |envelope| refused(envelope, Reason::EnvelopeTooShort);
+    assert_eq!(
+        read_header(&[], &mut [], &mut [], &mut []).unwrap_err(),
+        too_short(Envelope::Header)
+    );
+    assert_eq!(
+        read_footer(SMALLEST, &[], 0, &mut [], &mut []).unwrap_err(),
+        too_short(Envelope::Footer)
+    );
+    assert_eq!(
+        read_page_list(SMALLEST, &[], 0, 0, &mut []).unwrap_err(),
+        too_short(Envelope::PageList)
+    );
+    assert!(read_header(SMALLEST, &mut [], &mut [], &mut []).is_ok());
+    assert!(read_footer(SMALLEST, SMALLEST_FOOTER, 0, &mut [], &mut []).is_ok());
+    assert!(read_page_list(SMALLEST, SMALLEST_PAGE_LIST, 0, 0, &mut []).is_ok());
+    for column_type in (1..=28).filter(|&column_type| column_type != 3) {
+        assert!(decode_page(column_type, 0, false, &[], &mut [], 0).unwrap().is_empty());
+        assert!(encode_page(column_type, 0, false, &[], 0, &mut []).unwrap().is_empty());
+        assert_eq!(encode(column_type, true, &[]).unwrap(), [0; 4]);
+        assert!(decode(column_type, 0, true, &[0; 4]).unwrap().is_empty());
+    }
+    assert_eq!(crc32(&[]), 0);
+    assert_eq!(crc32(b"123456789"), 0xCBF4_3926);
+}
