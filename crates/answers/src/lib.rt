@@ -1,10 +1,10 @@
-// Answers as one number, and as the words of a result.
+// Answers as one number, and as words in front of a lent result: all of them, or none where they have no room there.
 use footer::FooterAnswer;
 use header::HeaderAnswer;
 use page_list::PageListAnswer;
 use page_rules::PageAnswer;
 ghost use mathlib.Core.Path.{_≡_};
-ghost use mathlib.Core.List.{[], _∷_};
+ghost use Rattle.numbers.specs.Rows.{put};
 ghost use Rattle.outcome.specs.Outcome.{codeOf};
 ghost use Rattle.header.specs.Tables.{outcomeOf as headerOutcome, textsOf};
 ghost use Rattle.footer.specs.Tables.{outcomeOf as footerOutcome};
@@ -12,24 +12,17 @@ ghost use Rattle.page_list.specs.Tables.{outcomeOf as pageListOutcome};
 ghost use Rattle.page_rules.specs.Page.{outcomeOf as pageOutcome};
 ghost use Rattle.answers.specs.Results.{headerResult};
 
-pub fn header_code(answer: HeaderAnswer) -> u32
-    ensures { λ r. ⌜ r ≡ codeOf (headerOutcome answer) ⌝ }
-{
-    match answer {
-        HeaderAnswer::Accepted(_) => 0,
-        HeaderAnswer::Refused(number) => 256 + number as u32,
-    }
-}
-
-pub fn header_result(answer: HeaderAnswer) -> [u64; 7]
-    ensures { λ r. ⌜ r ≡ headerResult (textsOf answer) (headerOutcome answer) ⌝ }
+// The places and lengths of name and description, and the counts of fields, columns and aliases.
+pub fn tell_header(answer: HeaderAnswer, result: &mut [u64]) -> u32
+    ensures answers { λ r. ⌜ r ≡ codeOf (headerOutcome answer) ⌝ }
+    ensures leaves { λ _. ⌜ now (result .exit) ≡ put (now (result .entry)) 0 (headerResult (textsOf answer) (headerOutcome answer)) ⌝ }
 {
     match answer {
         HeaderAnswer::Accepted(tables) => {
             let texts = tables.texts;
             let name = texts.name;
             let description = texts.description;
-            [
+            let words = [
                 name.place as u64,
                 name.len as u64,
                 description.place as u64,
@@ -37,66 +30,64 @@ pub fn header_result(answer: HeaderAnswer) -> [u64; 7]
                 tables.fields as u64,
                 tables.columns as u64,
                 tables.aliases as u64,
-            ]
+            ];
+            rows::put_words(result, 0, &words);
+            0
         }
-        HeaderAnswer::Refused(_) => [0; 7],
+        HeaderAnswer::Refused(number) => {
+            rows::put_words(result, 0, &[0; 7]);
+            256 + number as u32
+        }
     }
 }
 
-pub fn footer_code(answer: FooterAnswer) -> u32
-    ensures { λ r. ⌜ r ≡ codeOf (footerOutcome answer) ⌝ }
+// The counts of clusters and of metadata links.
+pub fn tell_footer(answer: FooterAnswer, result: &mut [u64]) -> u32
+    ensures answers { λ r. ⌜ r ≡ codeOf (footerOutcome answer) ⌝ }
+    ensures leaves { λ _. ⌜ now (result .exit) ≡ put (now (result .entry)) 0 (footerOutcome answer .counts) ⌝ }
 {
     match answer {
-        FooterAnswer::Accepted {
-            clusters: _,
-            metadata: _,
-        } => 0,
-        FooterAnswer::Refused(envelope, number) => 256 * (envelope as u32) + number as u32,
+        FooterAnswer::Accepted { clusters, metadata } => {
+            rows::put_words(result, 0, &[clusters as u64, metadata as u64]);
+            0
+        }
+        FooterAnswer::Refused(envelope, number) => {
+            rows::put_words(result, 0, &[0; 2]);
+            256 * (envelope as u32) + number as u32
+        }
     }
 }
 
-pub fn footer_result(answer: FooterAnswer) -> [u64; 2]
-    ensures { λ r. ⌜ r ≡ footerOutcome answer .counts ⌝ }
+// The count of pages.
+pub fn tell_page_list(answer: PageListAnswer, result: &mut [u64]) -> u32
+    ensures answers { λ r. ⌜ r ≡ codeOf (pageListOutcome answer) ⌝ }
+    ensures leaves { λ _. ⌜ now (result .exit) ≡ put (now (result .entry)) 0 (pageListOutcome answer .counts) ⌝ }
 {
     match answer {
-        FooterAnswer::Accepted { clusters, metadata } => [clusters as u64, metadata as u64],
-        FooterAnswer::Refused(_, _) => [0; 2],
+        PageListAnswer::Accepted { pages } => {
+            rows::put_words(result, 0, &[pages as u64]);
+            0
+        }
+        PageListAnswer::Refused(envelope, number) => {
+            rows::put_words(result, 0, &[0; 1]);
+            256 * (envelope as u32) + number as u32
+        }
     }
 }
 
-pub fn page_list_code(answer: PageListAnswer) -> u32
-    ensures { λ r. ⌜ r ≡ codeOf (pageListOutcome answer) ⌝ }
+// How many elements were read, or bytes written.
+pub fn tell_page(answer: PageAnswer, result: &mut [u64]) -> u32
+    ensures answers { λ r. ⌜ r ≡ codeOf (pageOutcome answer) ⌝ }
+    ensures leaves { λ _. ⌜ now (result .exit) ≡ put (now (result .entry)) 0 (pageOutcome answer .counts) ⌝ }
 {
     match answer {
-        PageListAnswer::Accepted { pages: _ } => 0,
-        PageListAnswer::Refused(envelope, number) => 256 * (envelope as u32) + number as u32,
-    }
-}
-
-pub fn page_list_result(answer: PageListAnswer) -> [u64; 1]
-    ensures { λ r. ⌜ r ≡ pageListOutcome answer .counts ⌝ }
-{
-    match answer {
-        PageListAnswer::Accepted { pages } => [pages as u64],
-        PageListAnswer::Refused(_, _) => [0; 1],
-    }
-}
-
-pub fn page_code(answer: PageAnswer) -> u32
-    ensures { λ r. ⌜ r ≡ codeOf (pageOutcome answer) ⌝ }
-{
-    match answer {
-        PageAnswer::Accepted(_) => 0,
-        PageAnswer::Refused(number) => 1024 + number as u32,
-    }
-}
-
-// The bytes that were written: none where the page is refused.
-pub fn page_count(answer: PageAnswer) -> u64
-    ensures { λ r. ⌜ (r ∷ []) ≡ pageOutcome answer .counts ⌝ }
-{
-    match answer {
-        PageAnswer::Accepted(count) => count as u64,
-        PageAnswer::Refused(_) => 0,
+        PageAnswer::Accepted(count) => {
+            rows::put_words(result, 0, &[count as u64]);
+            0
+        }
+        PageAnswer::Refused(number) => {
+            rows::put_words(result, 0, &[0; 1]);
+            1024 + number as u32
+        }
     }
 }

@@ -11,7 +11,8 @@ use Rattle.wire.specs.Reading.{Step, found, _>>=_, give, number, tested}
 use Rattle.frames.specs.Frames.{recordOf}
 use Rattle.wire.proofs.Laws.{bound, judged-zero}
 use Rattle.frames.proofs.Loops.{Reached, reached-none, reached-more, record-found}
-use Rattle.clusters.specs.Clusters.{link, entriesOf, startsAt, entryCount, cluster}
+use Rattle.links.specs.Links.{link}
+use Rattle.clusters.specs.Clusters.{entriesOf, startsAt, entryCount, cluster}
 use Rattle.rows.specs.declared.Link.{Link}
 use Rattle.rows.specs.declared.ClusterRow.{ClusterRow}
 

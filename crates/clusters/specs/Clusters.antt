@@ -1,21 +1,14 @@
--- Links, clusters, and the two lists of a footer that have items.
+-- Clusters, and their list.
 use Prim.Native.Nat.{ℕ, _+_, _/_, _%_, _^_}
 use mathlib.Core.List.{List, [], _∷_}
 use mathlib.Core.Bool.{Bool}
 use lib.Dec.{ltb, eqb}
-use Rattle.wire.specs.Reading.{Step, Rule, _>>=_, give, tested, unless, number}
-use Rattle.wire.specs.Locator.{located}
+use Rattle.wire.specs.Reading.{Step, Rule, _>>=_, give, tested, unless}
+use Rattle.links.specs.Links.{link}
 use Rattle.frames.specs.Frames.{recordOf, items, listOf, atMost}
 use Rattle.frames.specs.declared.ListHead.{ListHead}
-use Rattle.rows.specs.Words.{mostClusters, mostLinks}
-use Rattle.rows.specs.declared.Link.{Link}
+use Rattle.rows.specs.Words.{mostClusters}
 use Rattle.rows.specs.declared.ClusterRow.{ClusterRow}
-
--- a link: uncompressed size, then a locator whose stored size is the same, inside the file
-unfoldable pub link : ℕ → Rule Link
-link file = do
-  size ← number 4
-  located file size (λ stored offset. give (record { size = stored; offset = offset }))
 
 -- a verdict on a cluster's first entry: the sum of the earlier entry counts
 abbrev pub startsAt : ℕ → ℕ → ℕ
@@ -42,17 +35,9 @@ entriesOf [] = 0
 entriesOf (c ∷ cs) = c .entries + entriesOf cs
 
 -- the items of a list at `list`, whose head was read
-
 abbrev pub clusterItems : List ℕ → Bool → ℕ → ListHead → ℕ → Step (List ClusterRow)
 clusterItems s strict list h file = items list (λ before. recordOf strict (cluster file (entriesOf before))) (h .count) [] s (h .start)
-
-abbrev pub linkItems : List ℕ → ℕ → ListHead → ℕ → Step (List Link)
-linkItems s list h file = items list (λ _. link file) (h .count) [] s (h .start)
 
 -- the list of clusters
 abbrev pub clusterList : Bool → ℕ → Rule (List ClusterRow)
 clusterList strict file = listOf strict (atMost mostClusters) (λ _ before. recordOf strict (cluster file (entriesOf before)))
-
--- the list of metadata links
-abbrev pub linkList : Bool → ℕ → Rule (List Link)
-linkList strict file = listOf strict (atMost mostLinks) (λ _ _. link file)

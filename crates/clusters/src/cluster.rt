@@ -1,11 +1,9 @@
 // Clusters and their list: each one starts where the entries of those before it end.
 use crate::ClusterStep;
-use crate::LinkStep;
-use crate::links::link_at;
-use crate::unless_due;
 use frames::FrameStep;
 use frames::ListHead;
 use frames::ListStep;
+use links::LinkStep;
 use rows::ClusterRow;
 use wire::NumberStep;
 use wire::PlaceStep;
@@ -38,7 +36,12 @@ fn first_entry_at(s: &[u8], at: usize, sum: u64) -> NumberStep
     ensures { λ r. ⌜ numberStep r ≡ tested 8 (startsAt sum) (now (s .entry)) at ⌝ }
 {
     match wire::number_8(s, at) {
-        NumberStep::Found(first, next) => wire::judge(first, at, next, unless_due(first, sum, 19)),
+        NumberStep::Found(first, next) => wire::judge(
+            first,
+            at,
+            next,
+            wire::unless_due(first, sum, 19),
+        ),
         NumberStep::Refused(f) => NumberStep::Refused(f),
     }
 }
@@ -59,7 +62,7 @@ fn cluster_at(s: &[u8], at: usize, file: u64, sum: u64) -> ClusterStep
 {
     match first_entry_at(s, at, sum) {
         NumberStep::Found(first_entry, word_at) => match entries_at(s, word_at, sum) {
-            NumberStep::Found(entries, link_place) => match link_at(s, link_place, file) {
+            NumberStep::Found(entries, link_place) => match links::link_at(s, link_place, file) {
                 LinkStep::Found(page_list, next) => ClusterStep::Found(
                     ClusterRow {
                         first_entry,
@@ -124,10 +127,10 @@ fn scan_clusters(s: &[u8], strict: bool, list: usize, head: ListHead, file: u64)
 pub fn scan_cluster_list(s: &[u8], strict: bool, at: usize, file: u64) -> NumberStep
     ensures { λ r. ⌜ numberStep r ≡ counted (clusterList strict file (now (s .entry)) at) ⌝ }
 {
-    match frames::list_head_at_most(s, at, rows::MOST_CLUSTERS) {
+    match list_frames::list_head_at_most(s, at, rows::MOST_CLUSTERS) {
         ListStep::Found(head, stop) => {
             let scanned = scan_clusters(frames::up_to(s, stop), strict, at, head, file);
-            frames::close_list(scanned, strict, at, head.count, stop)
+            list_frames::close_list(scanned, strict, at, head.count, stop)
         }
         ListStep::Refused(f) => NumberStep::Refused(f),
     }

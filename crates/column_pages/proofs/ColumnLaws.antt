@@ -25,7 +25,7 @@ use Rattle.rows.specs.declared.ColumnRow.{ColumnRow}
 use Rattle.rows.specs.declared.PageRow.{PageRow}
 use Rattle.pages.specs.Pages.{elementsOf}
 use Rattle.rows.specs.Tables.{columnRow, columnsIn}
-use Rattle.totals.proofs.Columns.{columns-length, column-at}
+use Rattle.rows.proofs.FirstRows.{rows-length, row-at}
 use Rattle.column_pages.specs.ColumnPages.{pagesOf, perColumn, pagesAfter, payload}
 use Rattle.column_pages.specs.Answers.{bitsIn, columnItems, sumsOf}
 use Rattle.column_pages.specs.declared.Sums.{Sums}
@@ -36,10 +36,10 @@ none = record { «column_type» = 0; bits = 0; field = record { 0 = 0 }; flags =
 pub bits-at : (table : List ℕ) (n k : ℕ) → k < n → getD (bitsIn table n) k 0 ≡ columnRow table k .bits % 2 ^ 16
 unfolding none
 bits-at table n k h =
-    List·getD-map (λ (r : ColumnRow). r .bits % 2 ^ 16) (columnsIn table n) k none ∙ ap (λ (r : ColumnRow). r .bits % 2 ^ 16) (column-at table n k none h)
+    List·getD-map (λ (r : ColumnRow). r .bits % 2 ^ 16) (columnsIn table n) k none ∙ ap (λ (r : ColumnRow). r .bits % 2 ^ 16) (row-at columnRow table n k none h)
 
 pub bits-length : (table : List ℕ) (n : ℕ) → length (bitsIn table n) ≡ n
-bits-length table n = length-map (columnsIn table n) (λ (r : ColumnRow). r .bits % 2 ^ 16) ∙ columns-length table n
+bits-length table n = length-map (columnsIn table n) (λ (r : ColumnRow). r .bits % 2 ^ 16) ∙ rows-length columnRow table n
 
 -- a count that passes is the number of columns
 pub count-passes : (n k : ℕ) → perColumn n k ≡ 0 → (k ≤ mostColumns) × (k ≡ n)

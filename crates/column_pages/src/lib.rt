@@ -52,7 +52,7 @@ fn scan_columns(
     let mut at = head.start;
     while i < count {
         let column = ColumnNumber(i as u64);
-        let row = header_rows::column_row(columns, column);
+        let row = column_rows::column_row(columns, column);
         let bits = (row.bits % 65536) as u16;
         match pages::scan_page_list(s, strict, at, column, bits, file, total) {
             TallyStep::Found(tally, next) => {
@@ -89,8 +89,8 @@ fn per_column(columns: usize, n: usize) -> u16
 pub fn column_list_head(s: &[u8], n: usize) -> ListStep
     ensures { λ r. ⌜ listStep r ≡ listHead (perColumn n) (now (s .entry)) 4 ⌝ }
 {
-    match frames::list_head(s, 4) {
-        ListStep::Found(head, stop) => frames::judge_count(
+    match list_frames::list_head(s, 4) {
+        ListStep::Found(head, stop) => list_frames::judge_count(
             head,
             4,
             stop,
@@ -109,7 +109,7 @@ pub fn scan_payload(s: &[u8], strict: bool, columns: &[u64], n: usize, file: u64
             let sums = scan_columns(frames::up_to(s, stop), strict, 4, head, columns, file);
             let pages = sums.pages;
             let elements = sums.elements;
-            match frames::close_list(pages, strict, 4, head.count, stop) {
+            match list_frames::close_list(pages, strict, 4, head.count, stop) {
                 NumberStep::Found(count, past) => {
                     match frames::close_frame(strict, past, s.len()) {
                         PlaceStep::Found(next) => Sums {

@@ -1,156 +1,144 @@
 // The calls that a case can ask for, each with the tables or the page that it is lent.
 use crate::show;
-ghost use mathlib.Core.Path.{_≡_};
-ghost use lib.ListN.{length};
 
-// What is called, as `call` numbers it.
+// The numbers of a case, by their places. What is called, as `call` numbers it.
 const CALLED: usize = 0;
 
 // The length of the file, or the column type, or the number of a plane.
-const FILE_LENGTH: usize = 8;
+const FILE_LENGTH: usize = 1;
 
-const COLUMN_TYPE: usize = 8;
+const COLUMN_TYPE: usize = 1;
 
-const PLANE: usize = 8;
+const PLANE: usize = 1;
 
 // The entries of the cluster, or the elements of the page.
-const ENTRIES: usize = 16;
+const ENTRIES: usize = 2;
 
-const ELEMENTS: usize = 16;
+const ELEMENTS: usize = 2;
 
 // How many words are lent of each table. A page call is lent the first, and has two other numbers for the rest:
 // the starting element, and 1 where a checksum follows the page.
-const FIRST_TABLE: usize = 24;
+const FIRST_TABLE: usize = 3;
 
-const SECOND_TABLE: usize = 32;
+const SECOND_TABLE: usize = 4;
 
-const START: usize = 32;
+const START: usize = 4;
 
-const THIRD_TABLE: usize = 40;
+const THIRD_TABLE: usize = 5;
 
-const CHECKSUM: usize = 40;
+const CHECKSUM: usize = 5;
 
 // How many bytes are lent for a page.
-const PAGE_ROOM: usize = 48;
+const PAGE_ROOM: usize = 6;
 
-pub fn call(case: &[u8], first: &[u8], second: &[u8]) {
-    match numbers::little_8(case, CALLED) {
+pub fn call(case: [u64; 10], first: &[u8], second: &[u8]) {
+    match case[CALLED] {
+        1 => call_header(case, first),
+        2 => call_footer(case, first, second),
+        3 => call_page_list(case, first, second),
+        4 => call_decode(case, first),
         5 => call_encode(case, first),
         6 => show::hex(exports::rnt_crc32(first) as u64, 8),
-        7 => call_place(case, first, second),
-        called => call_reader(case, called, first, second),
+        _ => call_place(case, first, second),
     }
 }
 
-// An envelope or a page is read, to tables of as many words as the case says.
-fn call_reader(case: &[u8], called: u64, first: &[u8], second: &[u8]) {
-    let mut a = filled(called);
-    let mut b = filled(called);
-    let mut c = filled(called);
-    show_read(
-        case,
-        called,
-        first,
-        second,
-        lent(&mut a, numbers::little_8(case, FIRST_TABLE)),
-        lent(&mut b, numbers::little_8(case, SECOND_TABLE)),
-        lent(&mut c, numbers::little_8(case, THIRD_TABLE)),
-    );
-}
-
-fn show_read(
-    case: &[u8],
-    called: u64,
-    first: &[u8],
-    second: &[u8],
-    a: &mut [u64],
-    b: &mut [u64],
-    c: &mut [u64],
-) {
+// Of a header the counts are shown first, and then the places and lengths of its name and its description.
+fn call_header(case: [u64; 10], envelope: &[u8]) {
+    let mut a = [9u64; 64];
+    let mut b = [9u64; 64];
+    let mut c = [9u64; 64];
+    let fields = lent(&mut a, case[FIRST_TABLE]);
+    let columns = lent(&mut b, case[SECOND_TABLE]);
+    let aliases = lent(&mut c, case[THIRD_TABLE]);
     let mut result = [9u64; 7];
-    show::answer(
-        called,
-        read(case, called, first, second, a, b, c, &mut result),
-        &result,
+    let code = exports::rnt_read_header(envelope, fields, columns, aliases, &mut result);
+    show::answer(code, &result, 4);
+    show::words(fields);
+    show::words(columns);
+    show::words(aliases);
+}
+
+fn call_footer(case: [u64; 10], header: &[u8], footer: &[u8]) {
+    let mut a = [9u64; 64];
+    let mut b = [9u64; 64];
+    let clusters = lent(&mut a, case[FIRST_TABLE]);
+    let metadata = lent(&mut b, case[SECOND_TABLE]);
+    let mut result = [9u64; 2];
+    let code = exports::rnt_read_footer(
+        header,
+        footer,
+        case[FILE_LENGTH],
+        clusters,
+        metadata,
+        &mut result,
     );
-    show::words(a);
-    show::words_where(called < 3, b);
-    show::words_where(called < 2, c);
+    show::answer(code, &result, 0);
+    show::words(clusters);
+    show::words(metadata);
 }
 
-fn read(
-    case: &[u8],
-    called: u64,
-    first: &[u8],
-    second: &[u8],
-    a: &mut [u64],
-    b: &mut [u64],
-    c: &mut [u64],
-    result: &mut [u64],
-) -> u32 {
-    let n = numbers::little_8(case, FILE_LENGTH);
-    let entries = numbers::little_8(case, ENTRIES);
-    match called {
-        1 => exports::rnt_read_header(first, a, b, c, result),
-        2 => exports::rnt_read_footer(first, second, n, a, b, result),
-        3 => exports::rnt_read_page_list(first, second, entries, n, a, result),
-        _ => {
-            let column_type = numbers::little_4(case, COLUMN_TYPE) as u32;
-            let checksum = numbers::little_4(case, CHECKSUM) as u32;
-            let start = numbers::little_8(case, START);
-            exports::rnt_decode_page(column_type, entries, checksum, first, a, start)
-        }
-    }
-}
-
-fn call_encode(case: &[u8], bytes: &[u8]) {
-    let mut words = [0u64; 64];
-    let mut page = [0xEEu8; 64];
-    encode(
-        case,
-        bytes,
-        lent(&mut words, numbers::little_8(case, FIRST_TABLE)),
-        lent_bytes(&mut page, numbers::little_8(case, PAGE_ROOM)),
+fn call_page_list(case: [u64; 10], header: &[u8], page_list: &[u8]) {
+    let mut a = [9u64; 64];
+    let pages = lent(&mut a, case[FIRST_TABLE]);
+    let mut result = [9u64; 1];
+    let code = exports::rnt_read_page_list(
+        header,
+        page_list,
+        case[ENTRIES],
+        case[FILE_LENGTH],
+        pages,
+        &mut result,
     );
+    show::answer(code, &result, 0);
+    show::words(pages);
 }
 
-fn encode(case: &[u8], bytes: &[u8], words: &mut [u64], page: &mut [u8]) {
-    take_words(bytes, words);
-    let mut result = [0u64; 1];
-    let code = exports::rnt_encode_page(
-        numbers::little_4(case, COLUMN_TYPE) as u32,
-        numbers::little_8(case, ELEMENTS),
-        numbers::little_4(case, CHECKSUM) as u32,
+fn call_decode(case: [u64; 10], page: &[u8]) {
+    let mut a = [0x0909090909090909u64; 64];
+    let words = lent(&mut a, case[FIRST_TABLE]);
+    let code = exports::rnt_decode_page(
+        (case[COLUMN_TYPE] % 4294967296) as u32,
+        case[ELEMENTS],
+        (case[CHECKSUM] % 4294967296) as u32,
+        page,
         words,
-        numbers::little_8(case, START),
+        case[START],
+    );
+    show::answer(code, &[], 0);
+    show::words(words);
+}
+
+fn call_encode(case: [u64; 10], bytes: &[u8]) {
+    let mut a = [0u64; 64];
+    take_words(bytes, &mut a);
+    let words = lent(&mut a, case[FIRST_TABLE]);
+    let mut b = [0xEEu8; 64];
+    let page = lent_bytes(&mut b, case[PAGE_ROOM]);
+    let mut result = [9u64; 1];
+    let code = exports::rnt_encode_page(
+        (case[COLUMN_TYPE] % 4294967296) as u32,
+        case[ELEMENTS],
+        (case[CHECKSUM] % 4294967296) as u32,
+        words,
+        case[START],
         page,
         &mut result,
     );
-    show::answer(5, code, &result);
+    show::answer(code, &result, 0);
     show::bytes(page);
 }
 
-// The lent words are those that some bytes spell.
-fn call_place(case: &[u8], bytes: &[u8], plane: &[u8]) {
-    let mut words = [0u64; 64];
-    let out = lent(&mut words, numbers::little_8(case, FIRST_TABLE));
-    take_words(bytes, out);
-    planes::place_plane(numbers::little_8(case, PLANE) as usize, plane, out);
-    show::words(out);
-}
-
-// What a table has before a call: each word is 9, or each byte where a page is decoded to it.
-fn filled(called: u64) -> [u64; 64]
-    ensures { λ r. ⌜ 64 ≡ length r ⌝ }
-{
-    if called == 4 {
-        return [0x0909090909090909; 64];
-    }
-    [9; 64]
+fn call_place(case: [u64; 10], bytes: &[u8], plane: &[u8]) {
+    let mut a = [0u64; 64];
+    take_words(bytes, &mut a);
+    let words = lent(&mut a, case[FIRST_TABLE]);
+    planes::place_plane(case[PLANE] as usize, plane, words);
+    show::words(words);
 }
 
 // Puts the words that some bytes spell into a table, and zeros where there are no more.
-fn take_words(bytes: &[u8], table: &mut [u64]) {
+pub fn take_words(bytes: &[u8], table: &mut [u64]) {
     let mut at: usize = 0;
     let mut i = 0;
     while i < table.len() {

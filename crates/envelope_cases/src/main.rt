@@ -8,12 +8,12 @@ ghost use lib.ListN.{length};
 
 // A case is ten numbers of eight bytes each, of which `calls` names most, and two parts behind them: envelopes or a page, or words and a
 // plane. How many bytes the first part has; the second has the rest.
-const FIRST_PART: usize = 56;
+const FIRST_PART: usize = 7;
 
 // Which part, 1 or 2, is zeros instead, 0 for neither; and how many zeros.
-const ZEROS_FOR: usize = 64;
+const ZEROS_FOR: usize = 8;
 
-const ZEROS: usize = 72;
+const ZEROS: usize = 9;
 
 // Where the parts start.
 const PARTS: usize = 80;
@@ -42,33 +42,39 @@ fn show_file(name: &[u8]) {
     }
     io::write_all(STDOUT_FILENO, name);
     io::write_all(STDOUT_FILENO, b":");
-    run_file(fd);
+    run(fd);
     io::write_all(STDOUT_FILENO, b"\n");
 }
 
-fn run_file(fd: i32) {
+fn run(fd: i32) {
     let mut input = io::large_buffer();
     let count = io::read_full(fd, &mut input);
     libc::close(fd);
-    run(&input[..count]);
-}
-
-fn run(case: &[u8]) {
+    let bytes = &input[..count];
     let all = zeros();
-    let stop = std::num::wrapping_add_usize(PARTS, numbers::little_8(case, FIRST_PART) as usize);
+    let mut case = [0u64; 10];
+    calls::take_words(bytes, &mut case);
+    let stop = std::num::wrapping_add_usize(PARTS, case[FIRST_PART] as usize);
     calls::call(
         case,
-        part(case, 1, PARTS, stop, &all),
-        part(case, 2, stop, case.len(), &all),
+        part(case, 1, bytes, PARTS, stop, &all),
+        part(case, 2, bytes, stop, bytes.len(), &all),
     );
 }
 
 // The bytes of part number `number`, which stand from `start` to `stop`, or the zeros for it.
-fn part<'a>(case: &'a [u8], number: u64, start: usize, stop: usize, zeros: &'a [u8]) -> &'a [u8] {
-    if numbers::little_8(case, ZEROS_FOR) == number {
-        return reader::text_of(zeros, 0, numbers::little_8(case, ZEROS) as usize);
+fn part<'a>(
+    case: [u64; 10],
+    number: u64,
+    bytes: &'a [u8],
+    start: usize,
+    stop: usize,
+    zeros: &'a [u8],
+) -> &'a [u8] {
+    if case[ZEROS_FOR] == number {
+        return reader::text_of(zeros, 0, case[ZEROS] as usize);
     }
-    reader::text_of(case, start, std::num::wrapping_sub_usize(stop, start))
+    reader::text_of(bytes, start, std::num::wrapping_sub_usize(stop, start))
 }
 
 // One byte more than an envelope may have.

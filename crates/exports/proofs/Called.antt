@@ -24,7 +24,9 @@ use Rattle.page_list.specs.Tables.{Answered as AnsweredPageList, outcomeOf as p
 use Rattle.rows.specs.declared.PageRow.{PageRow}
 use Rattle.page_list.specs.declared.PageListAnswer.{PageListAnswer}
 use Rattle.page_list.specs.declared.PageListAnswer.the-variants.{Accepted as PageListAccepted, Refused as PageListRefused}
-use Rattle.page_rules.specs.Page.{readable, refuse, decodeOutcome, decoded, encodeOutcome, encoded}
+use Rattle.page_rules.specs.declared.PageAnswer.{PageAnswer}
+use Rattle.page_rules.specs.declared.PageAnswer.the-variants.{Accepted as PageAccepted, Refused as PageRefused}
+use Rattle.page_rules.specs.Page.{outcomeOf as pageOutcome, readable, refuse, decodeOutcome, decoded, encodeOutcome, encoded}
 use Rattle.exports.specs.Results.{given, shortResult, HandsOver}
 use Rattle.answers.specs.Results.{headerResult}
 use Rattle.exports.specs.Calls.{HeaderCall, FooterCall, PageListCall, asks, EncodeCall}
@@ -65,12 +67,12 @@ header-short x f c a w short =
       aliasesAre = given-short 7 w _ _ short;
     }
 
-pub header-called : {x : Step Header} {f₀ f c₀ c a₀ a w₀ w words : List ℕ} {r : HeaderAnswer} {code : ℕ} → 7 ≤ length w₀ → Answered x f₀ f c₀ c a₀ a r
-    → words ≡ headerResult (textsOf r) (headerOutcome r) → w ≡ put w₀ 0 words → code ≡ codeOf (headerOutcome r) → HeaderCall x f₀ f c₀ c a₀ a w₀ w code
-header-called {w₀ = w₀} {r = r} fits left are stored is =
+pub header-called : {x : Step Header} {f₀ f c₀ c a₀ a w₀ w : List ℕ} {r : HeaderAnswer} {code : ℕ} → 7 ≤ length w₀ → Answered x f₀ f c₀ c a₀ a r
+    → code ≡ codeOf (headerOutcome r) → w ≡ put w₀ 0 (headerResult (textsOf r) (headerOutcome r)) → HeaderCall x f₀ f c₀ c a₀ a w₀ w code
+header-called {w₀ = w₀} {r = r} fits left is stored =
     let result = ap₂ headerResult (left .reportsTexts) (left .reports) in
     record {
-      handsOver = hands-over 7 fits (ap length (sym result) ∙ header-words r) (is ∙ ap codeOf (left .reports)) (stored ∙ ap (put w₀ 0) (are ∙ result));
+      handsOver = hands-over 7 fits (ap length (sym result) ∙ header-words r) (is ∙ ap codeOf (left .reports)) (stored ∙ ap (put w₀ 0) result);
       fieldsAre = given-room 7 w₀ _ _ fits (left .fieldsAre);
       columnsAre = given-room 7 w₀ _ _ fits (left .columnsAre);
       aliasesAre = given-room 7 w₀ _ _ fits (left .aliasesAre);
@@ -86,12 +88,12 @@ pub footer-short : (x : Beside Footer) (c m w : List ℕ) → length w < 2 → F
 footer-short x c m w short =
     record { handsOver = hands-nothing 2 _ _ w short; clustersAre = given-short 2 w _ _ short; metadataAre = given-short 2 w _ _ short }
 
-pub footer-called : {x : Beside Footer} {c₀ c m₀ m w₀ w words : List ℕ} {r : FooterAnswer} {code : ℕ} → 2 ≤ length w₀ → AnsweredFooter x c₀ c m₀ m r
-    → words ≡ footerOutcome r .counts → w ≡ put w₀ 0 words → code ≡ codeOf (footerOutcome r) → FooterCall x c₀ c m₀ m w₀ w code
-footer-called {w₀ = w₀} {r = r} fits left are stored is =
+pub footer-called : {x : Beside Footer} {c₀ c m₀ m w₀ w : List ℕ} {r : FooterAnswer} {code : ℕ} → 2 ≤ length w₀ → AnsweredFooter x c₀ c m₀ m r
+    → code ≡ codeOf (footerOutcome r) → w ≡ put w₀ 0 (footerOutcome r .counts) → FooterCall x c₀ c m₀ m w₀ w code
+footer-called {w₀ = w₀} {r = r} fits left is stored =
     let counts = ap (λ (o : Outcome). o .counts) (left .reports) in
     record {
-      handsOver = hands-over 2 fits (ap length (sym counts) ∙ footer-words r) (is ∙ ap codeOf (left .reports)) (stored ∙ ap (put w₀ 0) (are ∙ counts));
+      handsOver = hands-over 2 fits (ap length (sym counts) ∙ footer-words r) (is ∙ ap codeOf (left .reports)) (stored ∙ ap (put w₀ 0) counts);
       clustersAre = given-room 2 w₀ _ _ fits (left .clustersAre);
       metadataAre = given-room 2 w₀ _ _ fits (left .metadataAre);
     }
@@ -105,12 +107,12 @@ page-list-words (PageListRefused envelope number) = refl
 pub page-list-short : (x : Beside (List (List PageRow))) (p w : List ℕ) → length w < 1 → PageListCall x p p w w shortResult
 page-list-short x p w short = record { handsOver = hands-nothing 1 _ _ w short; pagesAre = given-short 1 w _ _ short }
 
-pub page-list-called : {x : Beside (List (List PageRow))} {p₀ p w₀ w words : List ℕ} {r : PageListAnswer} {code : ℕ} → 1 ≤ length w₀ → AnsweredPageList x p₀ p r
-    → words ≡ pageListOutcome r .counts → w ≡ put w₀ 0 words → code ≡ codeOf (pageListOutcome r) → PageListCall x p₀ p w₀ w code
-page-list-called {w₀ = w₀} {r = r} fits left are stored is =
+pub page-list-called : {x : Beside (List (List PageRow))} {p₀ p w₀ w : List ℕ} {r : PageListAnswer} {code : ℕ} → 1 ≤ length w₀ → AnsweredPageList x p₀ p r
+    → code ≡ codeOf (pageListOutcome r) → w ≡ put w₀ 0 (pageListOutcome r .counts) → PageListCall x p₀ p w₀ w code
+page-list-called {w₀ = w₀} {r = r} fits left is stored =
     let counts = ap (λ (o : Outcome). o .counts) (left .reports) in
     record {
-      handsOver = hands-over 1 fits (ap length (sym counts) ∙ page-list-words r) (is ∙ ap codeOf (left .reports)) (stored ∙ ap (put w₀ 0) (are ∙ counts));
+      handsOver = hands-over 1 fits (ap length (sym counts) ∙ page-list-words r) (is ∙ ap codeOf (left .reports)) (stored ∙ ap (put w₀ 0) counts);
       pagesAre = given-room 1 w₀ _ _ fits (left .pagesAre);
     }
 
@@ -138,27 +140,31 @@ module _ (t : ℕ) (high : 65535 < t) where
   unfolding encoded
   high-encoded n checksum words start old = rw (high-encode n checksum words start (length old))
 
--- one word that is stored is handed over
-set-front : (w : List ℕ) (v : ℕ) → 1 ≤ length w → set w 0 v ≡ over (v ∷ []) w
-set-front [] v fits = absurd (omega arith)
-set-front (x ∷ xs) v fits = refl
-
-hands-word : {code v r : ℕ} {w : List ℕ} → 1 ≤ length w → r ≡ code → HandsOver 1 code (v ∷ []) w (set w 0 v) r
-hands-word {v = v} {w = w} fits is = record { answers = given-room 1 w _ _ fits is; resultIs = given-room 1 w _ _ fits (set-front w v fits) }
+page-words : (r : PageAnswer) → length (pageOutcome r .counts) ≡ 1
+page-words (PageAccepted count) = refl
+page-words (PageRefused number) = refl
 
 pub encode-short : (t n checksum : ℕ) (words : List ℕ) (start : ℕ) (p w : List ℕ) → length w < 1 → EncodeCall t n checksum words start p p w w shortResult
 encode-short t n checksum words start p w short = record { handsOver = hands-nothing 1 _ _ w short; pageIs = given-short 1 w _ _ short }
 
-pub encode-called : {t n checksum : ℕ} {words : List ℕ} {start : ℕ} {p₀ p w : List ℕ} {o : Outcome} {count code : ℕ} → 1 ≤ length w
-    → o ≡ encodeOutcome t n (asks checksum) words start (length p₀) → p ≡ encoded t n (asks checksum) words start p₀ → (count ∷ []) ≡ o .counts → code ≡ codeOf o
-    → EncodeCall t n checksum words start p₀ p w (set w 0 count) code
-encode-called {p₀ = p₀} {w = w} fits outcome page counts is =
-    let count = counts ∙ ap (λ (q : Outcome). q .counts) outcome in
+pub encode-called : {t n checksum : ℕ} {words : List ℕ} {start : ℕ} {p₀ p w₀ w : List ℕ} {code : ℕ} (r : PageAnswer) → 1 ≤ length w₀
+    → pageOutcome r ≡ encodeOutcome t n (asks checksum) words start (length p₀) → p ≡ encoded t n (asks checksum) words start p₀
+    → code ≡ codeOf (pageOutcome r) → w ≡ put w₀ 0 (pageOutcome r .counts) → EncodeCall t n checksum words start p₀ p w₀ w code
+encode-called {w₀ = w₀} r fits outcome page is stored =
+    let counts = ap (λ (o : Outcome). o .counts) outcome in
     record {
-      handsOver = rw (← count) (hands-word fits (is ∙ ap codeOf outcome));
-      pageIs = given-room 1 w _ _ fits page;
+      handsOver = hands-over 1 fits (ap length (sym counts) ∙ page-words r) (is ∙ ap codeOf outcome) (stored ∙ ap (put w₀ 0) counts);
+      pageIs = given-room 1 w₀ _ _ fits page;
     }
+
+-- a type that is unknown is refused with a count of 0
+zero-put : (w : List ℕ) → 1 ≤ length w → set w 0 0 ≡ over (0 ∷ []) w
+zero-put [] fits = absurd (omega arith)
+zero-put (x ∷ xs) fits = refl
 
 pub encode-high : (t n checksum : ℕ) (words : List ℕ) (start : ℕ) (p w : List ℕ) → 65535 < t → 1 ≤ length w → EncodeCall t n checksum words start p p w (set w 0 0) 1047
 encode-high t n checksum words start p w high fits =
-    encode-called fits (sym (high-encode t high n (asks checksum) words start (length p))) (high-encoded t high n (asks checksum) words start p) refl refl
+    record {
+      handsOver = rw (high-encode t high n (asks checksum) words start (length p)) (record { answers = given-room 1 w _ _ fits refl; resultIs = given-room 1 w _ _ fits (zero-put w fits) });
+      pageIs = given-room 1 w _ _ fits (high-encoded t high n (asks checksum) words start p);
+    }

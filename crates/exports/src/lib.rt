@@ -30,9 +30,7 @@ pub extern "C" fn rnt_read_header(
         return 4294967295;
     }
     let answer = header_reader::read_header(envelope, fields, columns, aliases);
-    let words = answers::header_result(answer);
-    rows::put_words(result, 0, &words);
-    answers::header_code(answer)
+    answers::tell_header(answer, result)
 }
 
 #[no_mangle]
@@ -50,9 +48,7 @@ pub extern "C" fn rnt_read_footer(
         return 4294967295;
     }
     let answer = footer::read_footer(header, footer, file_length, clusters, metadata);
-    let words = answers::footer_result(answer);
-    rows::put_words(result, 0, &words);
-    answers::footer_code(answer)
+    answers::tell_footer(answer, result)
 }
 
 #[no_mangle]
@@ -70,12 +66,10 @@ pub extern "C" fn rnt_read_page_list(
         return 4294967295;
     }
     let answer = page_list::read_page_list(header, page_list, entries, file_length, pages);
-    let words = answers::page_list_result(answer);
-    rows::put_words(result, 0, &words);
-    answers::page_list_code(answer)
+    answers::tell_page_list(answer, result)
 }
 
-// A column type above 65535 is unknown, which is refused before all else.
+// A column type above 65535 is unknown, which is refused before all else. No count is handed over: it is that of the elements asked for.
 #[no_mangle]
 pub extern "C" fn rnt_decode_page(
     column_type: u32,
@@ -99,7 +93,7 @@ pub extern "C" fn rnt_decode_page(
         words,
         start as usize,
     );
-    answers::page_code(answer)
+    answers::tell_page(answer, &mut [0; 0])
 }
 
 #[no_mangle]
@@ -129,6 +123,5 @@ pub extern "C" fn rnt_encode_page(
         start as usize,
         page,
     );
-    result[0] = answers::page_count(answer);
-    answers::page_code(answer)
+    answers::tell_page(answer, result)
 }

@@ -13,7 +13,8 @@ use Rattle.frames.proofs.Laws.{ended, spared}
 use Rattle.numbers.specs.Choice.{pick}
 use Rattle.wire.proofs.Laws.{never, counted-found, counted-refused}
 use Rattle.footer.specs.Footer.{payload, opening}
-use Rattle.clusters.specs.Clusters.{clusterList, linkList}
+use Rattle.links.specs.Links.{linkList}
+use Rattle.clusters.specs.Clusters.{clusterList}
 use Rattle.footer.specs.Answers.{Scanned}
 use Rattle.footer.proofs.OpeningLaws.{opening-then}
 

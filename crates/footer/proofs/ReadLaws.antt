@@ -16,7 +16,8 @@ use Rattle.header.specs.Header.{Header}
 use Rattle.header.specs.Tables.{headerOf}
 use Rattle.header.specs.Beside.{Beside, refusal, inEnvelope}
 use Rattle.footer.specs.Footer.{Footer, payload, footerOf}
-use Rattle.clusters.specs.Clusters.{clusterList, linkList}
+use Rattle.links.specs.Links.{linkList}
+use Rattle.clusters.specs.Clusters.{clusterList}
 use Rattle.footer.specs.Tables.{fitting, roomFor, answer, written, footerBeside, Answered}
 use Rattle.rows.specs.Words.{clusterWidth, clusterWords, linkWidth, linkWords}
 use Rattle.footer.specs.Answers.{Scanned, scannedFooter}

@@ -7,7 +7,8 @@ use lib.ListN.{length}
 use Rattle.wire.specs.Reading.{found, refused, accepted, rowsOf}
 use Rattle.envelope.specs.Envelope.{whole}
 use Rattle.footer.specs.Footer.{Footer, payload}
-use Rattle.clusters.specs.Clusters.{clusterList, linkList}
+use Rattle.links.specs.Links.{linkList}
+use Rattle.clusters.specs.Clusters.{clusterList}
 use Rattle.footer.specs.declared.lists.FooterScan.{FooterScan}
 use Rattle.footer.specs.declared.lists.ScanStep.{ScanStep}
 use Rattle.footer.specs.declared.lists.ScanStep.the-variants.{Found as ScanFound, Refused as ScanRefused}

@@ -10,7 +10,8 @@ use Rattle.envelope.specs.Envelope.{envelope}
 use Rattle.envelope.specs.Features.{features}
 use Rattle.rows.specs.declared.Link.{Link}
 use Rattle.rows.specs.declared.ClusterRow.{ClusterRow}
-use Rattle.clusters.specs.Clusters.{clusterList, linkList}
+use Rattle.links.specs.Links.{linkList}
+use Rattle.clusters.specs.Clusters.{clusterList}
 
 -- what a footer reads
 pub record Footer : Type 0 where

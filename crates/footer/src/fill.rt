@@ -1,8 +1,8 @@
 // Writes the rows of lists that were accepted into the lent tables.
 use clusters::ClusterStep;
-use clusters::LinkStep;
 use frames::ListHead;
 use frames::ListStep;
+use links::LinkStep;
 ghost use mathlib.Core.Path.{_≡_};
 ghost use mathlib.Core.Bool.{true};
 ghost use Prim.Native.Nat.{ℕ, _*_, _≤_};
@@ -10,7 +10,8 @@ ghost use lib.ListN.{length};
 ghost use Rattle.numbers.specs.Rows.{flat, over};
 ghost use Rattle.wire.specs.Reading.{accepted, rowsOf};
 ghost use Rattle.rows.specs.Words.{clusterWidth, clusterWords, linkWidth, linkWords};
-ghost use Rattle.clusters.specs.Clusters.{clusterItems, clusterList, linkItems, linkList};
+ghost use Rattle.links.specs.Links.{linkItems, linkList};
+ghost use Rattle.clusters.specs.Clusters.{clusterItems, clusterList};
 
 // Writes the rows of the clusters of a list, which were accepted, into `table`.
 fn fill_clusters(table: &mut [u64], s: &[u8], strict: bool, list: usize, head: ListHead, file: u64)
@@ -47,7 +48,7 @@ fn fill_links(table: &mut [u64], s: &[u8], list: usize, head: ListHead, file: u6
     let mut i = 0;
     let mut at = head.start;
     while i < count {
-        match clusters::link_at(s, at, file) {
+        match links::link_at(s, at, file) {
             LinkStep::Found(row, next) => {
                 cluster_rows::put_link(table, i, row);
                 at = next;
@@ -66,7 +67,7 @@ pub fn fill_cluster_list(table: &mut [u64], s: &[u8], strict: bool, at: usize, f
     requires { ⌜ clusterWidth * length (rowsOf (clusterList strict file (now s) at)) ≤ length (now table) ⌝ }
     ensures { λ _. ⌜ now (table .exit) ≡ over (flat clusterWords (rowsOf (clusterList strict file (now (s .entry)) at))) (now (table .entry)) ⌝ }
 {
-    match frames::list_head_at_most(s, at, rows::MOST_CLUSTERS) {
+    match list_frames::list_head_at_most(s, at, rows::MOST_CLUSTERS) {
         ListStep::Found(head, stop) => {
             fill_clusters(table, frames::up_to(s, stop), strict, at, head, file);
         }
@@ -80,7 +81,7 @@ pub fn fill_link_list(table: &mut [u64], s: &[u8], strict: bool, at: usize, file
     requires { ⌜ linkWidth * length (rowsOf (linkList strict file (now s) at)) ≤ length (now table) ⌝ }
     ensures { λ _. ⌜ now (table .exit) ≡ over (flat linkWords (rowsOf (linkList strict file (now (s .entry)) at))) (now (table .entry)) ⌝ }
 {
-    match frames::list_head_at_most(s, at, rows::MOST_LINKS) {
+    match list_frames::list_head_at_most(s, at, rows::MOST_LINKS) {
         ListStep::Found(head, stop) => {
             fill_links(table, frames::up_to(s, stop), at, head, file);
         }

@@ -38,7 +38,7 @@ fn scan_payload(s: &[u8], strict: bool, checksum: u64, file: u64) -> ScanStep
             file,
         ) {
             NumberStep::Found(clusters, metadata_at) => {
-                match clusters::scan_link_list(s, strict, metadata_at, file) {
+                match links::scan_link_list(s, strict, metadata_at, file) {
                     NumberStep::Found(metadata, past) => {
                         match frames::close_frame(strict, past, s.len()) {
                             PlaceStep::Found(_) => ScanStep::Found(FooterScan {

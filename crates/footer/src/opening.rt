@@ -15,7 +15,7 @@ fn header_checksum_at(s: &[u8], at: usize, checksum: u64) -> NumberStep
 {
     match wire::number_4(s, at) {
         NumberStep::Found(named, next) => {
-            wire::judge(named, at, next, clusters::unless_due(named, checksum, 16))
+            wire::judge(named, at, next, wire::unless_due(named, checksum, 16))
         }
         NumberStep::Refused(f) => NumberStep::Refused(f),
     }
@@ -25,10 +25,10 @@ fn header_checksum_at(s: &[u8], at: usize, checksum: u64) -> NumberStep
 fn empty_list_head(s: &[u8], at: usize) -> ListStep
     ensures { λ r. ⌜ listStep r ≡ listHead noItems (now (s .entry)) at ⌝ }
 {
-    match frames::list_head(s, at) {
+    match list_frames::list_head(s, at) {
         ListStep::Found(head, stop) => {
-            let verdict = clusters::unless_due(head.count as u64, 0, 17);
-            frames::judge_count(head, at, stop, verdict)
+            let verdict = wire::unless_due(head.count as u64, 0, 17);
+            list_frames::judge_count(head, at, stop, verdict)
         }
         ListStep::Refused(f) => ListStep::Refused(f),
     }
@@ -39,7 +39,7 @@ fn empty_list_at(s: &[u8], strict: bool, at: usize) -> NumberStep
     ensures { λ r. ⌜ numberStep r ≡ counted (empty strict (now (s .entry)) at) ⌝ }
 {
     match empty_list_head(s, at) {
-        ListStep::Found(head, stop) => frames::close_list(
+        ListStep::Found(head, stop) => list_frames::close_list(
             NumberStep::Found(0, head.start),
             strict,
             at,

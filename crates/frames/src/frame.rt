@@ -1,4 +1,4 @@
-// Record frames, and the head and the end of any frame.
+// The head and the end of a frame, and what it is read in.
 use crate::FrameSize;
 use crate::FrameStep;
 use wire::Kind;
@@ -12,7 +12,7 @@ ghost use lib.ListN.{take};
 ghost use mir.Syntax.{w32};
 ghost use mir.Val.{toZ};
 ghost use Rattle.wire.specs.Reading.{found};
-ghost use Rattle.frames.specs.Frames.{frameSize, frameEnd, recordHead, closed};
+ghost use Rattle.frames.specs.Frames.{frameSize, frameEnd, recordHead, listStop, closed};
 ghost use Rattle.wire.specs.Answers.{placeStep};
 ghost use Rattle.frames.specs.Answers.{frameStep};
 
@@ -97,4 +97,18 @@ pub fn close_frame(strict: bool, past: usize, stop: usize) -> PlaceStep
         return PlaceStep::Found(stop);
     }
     PlaceStep::Found(stop)
+}
+
+// Where a list frame's items start, and where the frame stops.
+pub fn list_stop(s: &[u8], at: usize) -> FrameStep
+    ensures { λ r. ⌜ frameStep r ≡ listStop (now (s .entry)) at ⌝ }
+{
+    if numbers::has_room(s, at, 4) {
+        match frame_size(numbers::little_4(s, at)) {
+            FrameSize::RecordSize(_) => FrameStep::Refused(wire::fault_at(8, Kind::Frame, at)),
+            FrameSize::ListSize(size) => frame_end(s, at, 8, size),
+        }
+    } else {
+        FrameStep::Refused(wire::fault_at(7, Kind::Frame, at))
+    }
 }

@@ -1,14 +1,10 @@
 // Frames: records and lists.
 mod frame;
-mod list;
 
 pub use frame::close_frame;
+pub use frame::list_stop;
 pub use frame::record_head;
 pub use frame::up_to;
-pub use list::close_list;
-pub use list::judge_count;
-pub use list::list_head;
-pub use list::list_head_at_most;
 use wire::Fault;
 
 // A frame's kind and size.

@@ -1,3 +1,4 @@
+pub mod LaidLaws
 pub mod KeptLaws
 pub mod ListLaws
 pub mod PayloadLaws

@@ -1,87 +1,71 @@
--- The three lists, from what was counted in each to what they read together.
-use Prim.Native.Nat.{ℕ, _≤_}
-use mathlib.Core.Path.{_≡_, sym, _∙_}
+-- The parts of a payload, each after the step before it, and what they read together.
+use Prim.Native.Nat.{ℕ, _≤_, zero-le}
+use mathlib.Core.Path.{_≡_, refl, sym, ap, _∙_}
 use mathlib.Core.Bool.{Bool}
 use mathlib.Core.List.{List}
-use native.Mathlib.Omega.{arith}
 use lib.ListN.{length, take, length-map}
 use lib.Seq.{take-at}
-use Rattle.numbers.specs.Rows.{flat}
-use Rattle.wire.specs.declared.Fault.{Fault}
-use Rattle.wire.specs.Reading.{found, refused, counted, rowsOf, mapped}
-use Rattle.wire.proofs.Laws.{counted-found, counted-refused}
-use Rattle.frames.specs.Frames.{recordOf}
+use Rattle.wire.specs.Reading.{Step, found, refused, counted, mapped}
+use Rattle.frames.specs.Frames.{recordOf, closed}
+use Rattle.frames.proofs.Laws.{mapped-closed}
 use Rattle.frames.proofs.Loops.{list-most}
-use Rattle.rows.specs.Words.{mostFields, fieldWords, columnWords, aliasWords}
+use Rattle.envelope.specs.Envelope.{whole}
+use Rattle.rows.specs.Words.{mostFields}
 use Rattle.rows.specs.declared.FieldRow.{FieldRow}
-use Rattle.records.specs.Records.{field}
-use Rattle.header.specs.Header.{Lists, lists, fieldList, columnList, aliasList, flagsOf}
-use Rattle.header.specs.Tables.{parentsOf, columnTable, aliasTable}
-use Rattle.header.proofs.ListLaws.{columns-refused, aliases-refused, lists-found}
-use Rattle.header_payload.specs.Answers.{summary}
-use Rattle.header_payload.specs.Kept.{Kept, AllKept, parentWords, flagWords, fieldRows}
-use Rattle.header_payload.proofs.KeptLaws.{kept-found}
+use Rattle.rows.specs.declared.ColumnRow.{ColumnRow}
+use Rattle.rows.specs.declared.AliasRow.{AliasRow}
+use Rattle.records.specs.Records.{field, texts}
+use Rattle.records.specs.declared.HeaderTexts.{HeaderTexts}
+use Rattle.header.specs.Header.{payload, fieldList, columnList, aliasList, flagsOf}
+use Rattle.header.proofs.ListLaws.{fields-refused, columns-refused, aliases-refused, lists-found}
+use Rattle.header.proofs.PayloadLaws.{texts-refused, lists-refused, payload-found}
+use Rattle.header_payload.specs.Answers.{fieldsNext, columnsNext, aliasesNext, numberIn, gathered, scanOf}
+use Rattle.header_payload.specs.Kept.{Kept, layFlags}
 
-module _ (strict : Bool) (s : List ℕ) (at : ℕ) {f₀ f : List ℕ} (k : Kept flagsOf (fieldList strict s at) f₀ f) {n ca : ℕ} (fe : found n ca ≡ counted (fieldList strict s at)) where
-  the-fields : (fieldList strict s at ≡ found (rowsOf (fieldList strict s at)) ca) × (length (rowsOf (fieldList strict s at)) ≡ n)
-  the-fields = counted-found (fieldList strict s at) (sym fe)
+-- no more fields than may be
+pub few-fields : (strict : Bool) (s : List ℕ) (tx : Step HeaderTexts) → numberIn (counted (fieldsNext strict s tx)) ≤ mostFields
+few-fields strict s (found t la) = by (fieldList strict s la) refl
+  where
+    by : (y : Step (List FieldRow)) → fieldList strict s la ≡ y → numberIn (counted y) ≤ mostFields
+    by (found rows p) e = list-most strict mostFields (λ n _. recordOf strict (field n)) s la e
+    by (refused g) e = zero-le
+few-fields strict s (refused g) = zero-le
 
-  pub few-fields : n ≤ mostFields
-  few-fields =
-      let m = list-most strict mostFields (λ n _. recordOf strict (field n)) s at (the-fields .0) in
-      let e = the-fields .1 in
-      omega arith
+-- the flags of the fields that were found
+pub some-flags : (fields : List FieldRow) (f₀ : List ℕ) {f : List ℕ} → f ≡ layFlags fields f₀ → take (length fields) f ≡ flagsOf fields
+some-flags fields f₀ e = ap (take (length fields)) e ∙ take-at (flagsOf fields) _ (length fields) (length-map fields (λ (r : FieldRow). r .head .flags))
 
-  some-flags : take n f ≡ flagsOf (rowsOf (fieldList strict s at))
-  some-flags =
-      rw (k .holds (rowsOf (fieldList strict s at)) ca (the-fields .0))
-      (take-at (flagsOf (rowsOf (fieldList strict s at))) _ n (length-map (rowsOf (fieldList strict s at)) (λ (r : FieldRow). r .head .flags) ∙ the-fields .1))
+module _ (strict : Bool) (s : List ℕ) {f₀ f : List ℕ} where
+  -- the texts and the counts, gathered, are the scan of the payload
+  gathered-is : (tx : Step HeaderTexts) → texts s 4 ≡ tx → Kept layFlags (fieldsNext strict s tx) f₀ f
+      → gathered tx (counted (fieldsNext strict s tx)) (counted (columnsNext strict s (counted (fieldsNext strict s tx))))
+      (counted (aliasesNext strict s f (counted (fieldsNext strict s tx)) (counted (columnsNext strict s (counted (fieldsNext strict s tx))))))
+      ≡ mapped scanOf (payload strict s 4)
+  gathered-is (refused g) te k = sym (ap (mapped scanOf) (texts-refused strict s 4 te))
+  gathered-is (found t la) te k = fields (fieldList strict s la) refl k
+    where
+      aliases : (fl : List FieldRow) (ca : ℕ) → fieldList strict s la ≡ found fl ca → (cl : List ColumnRow) (aa : ℕ) → columnList strict (length fl) s ca ≡ found cl aa → take (length fl) f ≡ flagsOf fl
+          → (z : Step (List AliasRow)) → aliasList strict (flagsOf fl) (length cl) s aa ≡ z
+          → gathered (found t la) (found (length fl) ca) (found (length cl) aa) (counted z) ≡ mapped scanOf (payload strict s 4)
+      aliases fl ca fe cl aa ce fs (found al p) ae = sym (ap (mapped scanOf) (payload-found strict s 4 te (lists-found strict s la fe refl ce refl ae)))
+      aliases fl ca fe cl aa ce fs (refused g) ae = sym (ap (mapped scanOf) (lists-refused strict s 4 te (aliases-refused strict s la fe refl ce refl ae)))
 
-  pub scan-no-columns : {g : Fault} → refused g ≡ counted (columnList strict n s ca) → lists strict s at ≡ refused g
-  scan-no-columns e = columns-refused strict s at (the-fields .0) (the-fields .1) (counted-refused _ (sym e))
+      columns : (fl : List FieldRow) (ca : ℕ) → fieldList strict s la ≡ found fl ca → take (length fl) f ≡ flagsOf fl → (z : Step (List ColumnRow)) → columnList strict (length fl) s ca ≡ z
+          → gathered (found t la) (found (length fl) ca) (counted z) (counted (aliasesNext strict s f (found (length fl) ca) (counted z))) ≡ mapped scanOf (payload strict s 4)
+      columns fl ca fe fs (found cl aa) ce =
+          ap (λ (v : List ℕ). gathered (found t la) (found (length fl) ca) (found (length cl) aa) (counted (aliasList strict v (length cl) s aa))) fs
+          ∙ aliases fl ca fe cl aa ce fs (aliasList strict (flagsOf fl) (length cl) s aa) refl
+      columns fl ca fe fs (refused g) ce = sym (ap (mapped scanOf) (lists-refused strict s 4 te (columns-refused strict s la fe refl ce)))
 
-  module _ {m aa : ℕ} (ce : found m aa ≡ counted (columnList strict n s ca)) where
-    the-columns : (columnList strict n s ca ≡ found (rowsOf (columnList strict n s ca)) aa) × (length (rowsOf (columnList strict n s ca)) ≡ m)
-    the-columns = counted-found (columnList strict n s ca) (sym ce)
+      fields : (y : Step (List FieldRow)) → fieldList strict s la ≡ y → Kept layFlags y f₀ f
+          → gathered (found t la) (counted y) (counted (columnsNext strict s (counted y))) (counted (aliasesNext strict s f (counted y) (counted (columnsNext strict s (counted y)))))
+          ≡ mapped scanOf (payload strict s 4)
+      fields (found fl ca) fe j = columns fl ca fe (some-flags fl f₀ (j .holds fl ca refl)) (columnList strict (length fl) s ca) refl
+      fields (refused g) fe j = sym (ap (mapped scanOf) (lists-refused strict s 4 te (fields-refused strict s la fe)))
 
-    pub scan-no-aliases : {g : Fault} → refused g ≡ counted (aliasList strict (take n f) m s aa) → lists strict s at ≡ refused g
-    scan-no-aliases e =
-        aliases-refused strict s at (the-fields .0) (the-fields .1) (the-columns .0) (the-columns .1) (rw some-flags at (counted-refused (aliasList strict (take n f) m s aa) (sym e)))
-
-    module _ {l q : ℕ} (ae : found l q ≡ counted (aliasList strict (take n f) m s aa)) where
-      the-aliases : (aliasList strict (take n f) m s aa ≡ found (rowsOf (aliasList strict (take n f) m s aa)) q) × (length (rowsOf (aliasList strict (take n f) m s aa)) ≡ l)
-      the-aliases = counted-found (aliasList strict (take n f) m s aa) (sym ae)
-
-      the-lists : Lists
-      the-lists =
-          record {
-            fieldsAt = at;
-            fields = rowsOf (fieldList strict s at);
-            columnsAt = ca;
-            columns = rowsOf (columnList strict n s ca);
-            aliasesAt = aa;
-            aliases = rowsOf (aliasList strict (take n f) m s aa);
-          }
-
-      all-found : lists strict s at ≡ found the-lists q
-      unfolding the-lists
-      all-found =
-          lists-found strict s at (the-fields .0) (the-fields .1) (the-columns .0) (the-columns .1)
-          (rw some-flags at (the-aliases .0)) ∙ rw some-flags
-
-      pub scan-all : found (record { «fields_at» = at; fields = n; columns = m; aliases = l }) q ≡ mapped summary (lists strict s at)
-      unfolding the-lists
-      scan-all = rw (all-found, the-fields .1, the-columns .1, the-aliases .1)
-
-      pub scan-kept : {p₀ p r₀ r c₀ c a₀ a : List ℕ} → Kept parentsOf (fieldList strict s at) p₀ p → Kept (flat (fieldWords 0)) (fieldList strict s at) r₀ r
-          → Kept (flat columnWords) (columnList strict n s ca) c₀ c → Kept (flat aliasWords) (aliasList strict (take n f) m s aa) a₀ a
-          → AllKept (λ (l : Lists). l) (lists strict s at) p₀ p f₀ f r₀ r c₀ c a₀ a
-      unfolding the-lists
-      scan-kept kp kr kc ka =
-          record {
-            parentsAre = kept-found parentWords all-found (kp .holds _ _ (the-fields .0));
-            flagsAre = kept-found flagWords all-found (k .holds _ _ (the-fields .0));
-            fieldsAre = kept-found fieldRows all-found (kr .holds _ _ (the-fields .0));
-            columnsAre = kept-found columnTable all-found (kc .holds _ _ (the-columns .0));
-            aliasesAre = kept-found aliasTable all-found (ka .holds _ _ (the-aliases .0));
-          }
+  pub scan-is : {tx : Step HeaderTexts} {fx cx ax : Step ℕ} → tx ≡ texts s 4 → fx ≡ counted (fieldsNext strict s tx) → Kept layFlags (fieldsNext strict s tx) f₀ f
+      → cx ≡ counted (columnsNext strict s fx) → ax ≡ counted (aliasesNext strict s f fx cx)
+      → closed strict (length s) (gathered tx fx cx ax) ≡ mapped scanOf (whole strict (payload strict) s 4)
+  scan-is {tx} {fx} {cx} {ax} te fe k ce ae =
+      let g : gathered tx fx cx ax ≡ mapped scanOf (payload strict s 4) = rw (ae, ce, fe) (gathered-is tx (sym te) k) in
+      ap (closed strict (length s)) g ∙ sym (mapped-closed scanOf (λ g. g) strict (length s) (payload strict s 4))

@@ -1,47 +1,70 @@
--- What a scan leaves in the arrays that it is lent.
-use Prim.Native.Nat.{ℕ, _*_}
+-- What a scan leaves in the tables that it is lent.
+use Prim.Native.Nat.{ℕ, suc, _*_}
 use mathlib.Core.Path.{_≡_}
-use mathlib.Core.List.{List}
-use lib.ListN.{replicate}
-use Rattle.numbers.specs.Rows.{flat, over}
+use mathlib.Core.List.{List, [], _∷_}
+use lib.ListN.{length, replicate}
+use Rattle.numbers.specs.Rows.{put, over}
 use Rattle.wire.specs.Reading.{Step, found, refused}
-use Rattle.rows.specs.Words.{mostFields, mostColumns, mostAliases, fieldWidth, columnWidth, aliasWidth, fieldWords}
+use Rattle.rows.specs.Words.{mostFields, fieldWidth, columnWidth, aliasWidth, fieldWords, columnWords, aliasWords}
+use Rattle.rows.specs.declared.FieldRow.{FieldRow}
+use Rattle.rows.specs.declared.ColumnRow.{ColumnRow}
+use Rattle.rows.specs.declared.AliasRow.{AliasRow}
 use Rattle.header.specs.Header.{Lists, Header, flagsOf}
-use Rattle.header.specs.Tables.{parentsOf, columnTable, aliasTable}
+use Rattle.header.specs.Tables.{parentsOf}
 
--- where something is found, a table that held `old` has its words in front
-pub record Kept {A : Type 0} (words : A → List ℕ) (x : Step A) (old new : List ℕ) : Type 0 where
-  pub holds : (a : A) (p : ℕ) → x ≡ found a p → new ≡ over (words a) old
+-- rows of so many words each, written into a table from row i on, each where there is room for it
+unfoldable pub laid : {A : Type 0} → ℕ → (A → List ℕ) → ℕ → List A → List ℕ → List ℕ
+laid width words i [] table = table
+laid width words i (a ∷ rest) table = laid width words (suc i) rest (put table (width * i) (words a))
 
--- the words that are kept of three lists: the parent and the flags of each field, the rows of fields, which have no dark mark yet, and
--- those of columns and aliases
+-- what a scan makes of each table: the parent and the flags of each field in front, and the rows of fields, which have no dark mark
+-- yet, of columns and of aliases
 
-abbrev pub parentWords : Lists → List ℕ
-parentWords l = parentsOf (l .fields)
+abbrev pub layParents : List FieldRow → List ℕ → List ℕ
+layParents fields = over (parentsOf fields)
 
-abbrev pub flagWords : Lists → List ℕ
-flagWords l = flagsOf (l .fields)
+abbrev pub layFlags : List FieldRow → List ℕ → List ℕ
+layFlags fields = over (flagsOf fields)
 
-abbrev pub fieldRows : Lists → List ℕ
-fieldRows l = flat (fieldWords 0) (l .fields)
+abbrev pub layFields : List FieldRow → List ℕ → List ℕ
+layFields = laid fieldWidth (fieldWords 0) 0
 
--- where something with three lists is found, five tables have their words in front
-pub record AllKept {A : Type 0} (of : A → Lists) (x : Step A) (p₀ p f₀ f r₀ r c₀ c a₀ a : List ℕ) : Type 0 where
-  pub parentsAre : Kept (λ y. parentWords (of y)) x p₀ p
-  pub flagsAre : Kept (λ y. flagWords (of y)) x f₀ f
-  pub fieldsAre : Kept (λ y. fieldRows (of y)) x r₀ r
-  pub columnsAre : Kept (λ y. columnTable (of y)) x c₀ c
-  pub aliasesAre : Kept (λ y. aliasTable (of y)) x a₀ a
+abbrev pub layColumns : List ColumnRow → List ℕ → List ℕ
+layColumns = laid columnWidth columnWords 0
 
--- an array of n words after the scan: the words of an accepted header in front, or all zero
-unfoldable pub kept : (Lists → List ℕ) → ℕ → List ℕ → Step Header → List ℕ
-kept words n old (found h p) = over (words (h .lists)) old
-kept words n old (refused f) = replicate n 0
+abbrev pub layAliases : List AliasRow → List ℕ → List ℕ
+layAliases = laid aliasWidth aliasWords 0
 
--- the five arrays after the scan
+-- where something is found, it is laid over what a table held
+pub record Kept {A : Type 0} (lay : A → List ℕ → List ℕ) (x : Step A) (old new : List ℕ) : Type 0 where
+  pub holds : (a : A) (p : ℕ) → x ≡ found a p → new ≡ lay a old
+
+-- the same of three lists
+
+abbrev pub parentsLaid : Lists → List ℕ → List ℕ
+parentsLaid l = layParents (l .fields)
+
+abbrev pub flagsLaid : Lists → List ℕ → List ℕ
+flagsLaid l = layFlags (l .fields)
+
+abbrev pub fieldsLaid : Lists → List ℕ → List ℕ
+fieldsLaid l = layFields (l .fields)
+
+abbrev pub columnsLaid : Lists → List ℕ → List ℕ
+columnsLaid l = layColumns (l .columns)
+
+abbrev pub aliasesLaid : Lists → List ℕ → List ℕ
+aliasesLaid l = layAliases (l .aliases)
+
+-- a table of n words after the scan: an accepted header laid over what it held, or all zero
+unfoldable pub kept : (Lists → List ℕ → List ℕ) → ℕ → List ℕ → Step Header → List ℕ
+kept lay n old (found h p) = lay (h .lists) old
+kept lay n old (refused f) = replicate n 0
+
+-- the two arrays and the three tables after the scan
 pub record Settled (x : Step Header) (p₀ p f₀ f r₀ r c₀ c a₀ a : List ℕ) : Type 0 where
-  pub parentsAre : p ≡ kept parentWords mostFields p₀ x
-  pub flagsAre : f ≡ kept flagWords mostFields f₀ x
-  pub fieldsAre : r ≡ kept fieldRows (fieldWidth * mostFields) r₀ x
-  pub columnsAre : c ≡ kept columnTable (columnWidth * mostColumns) c₀ x
-  pub aliasesAre : a ≡ kept aliasTable (aliasWidth * mostAliases) a₀ x
+  pub parentsAre : p ≡ kept parentsLaid mostFields p₀ x
+  pub flagsAre : f ≡ kept flagsLaid mostFields f₀ x
+  pub fieldsAre : r ≡ kept fieldsLaid (length r₀) r₀ x
+  pub columnsAre : c ≡ kept columnsLaid (length c₀) c₀ x
+  pub aliasesAre : a ≡ kept aliasesLaid (length a₀) a₀ x

@@ -4,7 +4,7 @@ use mathlib.Core.Path.{_≡_, refl, sym, ap, _∙_}
 use mathlib.Core.List.{List, [], _∷_}
 use native.Mathlib.Numerals.{add-one}
 use native.Mathlib.Omega.{arith}
-use lib.ListN.{length, drop, take, length-append, length-drop}
+use lib.ListN.{length, drop, take, length-append}
 use lib.Seq.{take-at}
 use Rattle.numbers.specs.Rows.{put, flat, over}
 use Rattle.rows.specs.Tables.{firstRows}
@@ -36,10 +36,3 @@ front w width each rows old {table} {n} count is =
     let size : length (flat w rows) ≡ width * n = flat-wide w width each rows ∙ ap (λ (k : ℕ). width * k) (sym count) in
     let long : length table ≡ length (flat w rows) + length (drop (length (flat w rows)) old) = ap length is ∙ length-append (flat w rows) (drop (length (flat w rows)) old) in
     (ap (take (width * n)) is ∙ take-at (flat w rows) _ (width * n) size, omega arith)
-
--- a table is as long as it was
-pub over-long : (words old : List ℕ) → length words ≤ length old → length (over words old) ≡ length old
-over-long words old fits =
-    let a = length-append words (drop (length words) old) in
-    let d = length-drop (length words) old in
-    omega arith

@@ -1,3 +1,3 @@
 pub mod FillLaws
+pub mod ScanLaws
 pub mod ReadLaws
-pub mod SchemaLaws

@@ -1,44 +1,35 @@
--- The reading of a header: from its scan to the answer, the lent tables and the schema.
-use Prim.Native.Nat.{ℕ, _*_, _/_, _≤_}
+-- The reading of a header: from its scan to the answer and the lent tables.
+use Prim.Native.Nat.{ℕ, _*_, _≤_}
 use mathlib.Core.Path.{_≡_, refl, sym, ap, subst, _∙_}
-use mathlib.Core.Bool.{Bool, true, false}
+use mathlib.Core.Bool.{true, false}
 use mathlib.Core.List.{List}
 use native.Mathlib.Omega.{arith}
-use borrow.Author.Tests.{leb-true}
-use lib.Dec.{leb}
 use lib.ListN.{length, getD, take, replicate, length-map}
 use lib.Seq.{take-at, getD-take}
-use Rattle.numbers.specs.Choice.{both}
 use Rattle.numbers.specs.Rows.{flat, flatBy, over}
 use Rattle.wire.specs.declared.Fault.{Fault}
 use Rattle.wire.specs.Reading.{Step, found, refused, mapped}
 use Rattle.wire.proofs.Laws.{Mapped, mapped-found}
-use Rattle.rows.specs.Words.{bit, mostFields, mostColumns, mostAliases, fieldWidth, columnWidth, aliasWidth, fieldWords, columnWords, aliasWords}
+use Rattle.rows.specs.Words.{bit, mostFields, columnWidth, aliasWidth, fieldWords, columnWords, aliasWords}
 use Rattle.rows.specs.Tables.{fieldRow, firstRows, columnsIn}
 use Rattle.rows.specs.declared.FieldRow.{FieldRow}
 use Rattle.rows.proofs.RowLaws.{columns-back, fields-back}
 use Rattle.rows.proofs.TableLaws.{flat-same, flat-is}
-use Rattle.frames.specs.Frames.{recordOf}
-use Rattle.frames.proofs.Loops.{list-most}
-use Rattle.records.specs.Records.{alias}
 use Rattle.parents.specs.Parents.{Inside}
 use Rattle.parents.specs.Dark.{dark, darkMark}
 use Rattle.parents.proofs.InsideLaws.{inside-true}
 use Rattle.parents.proofs.DarkLaws.{Owned, hanging-all}
-use Rattle.header.specs.Header.{Header, flagsOf}
+use Rattle.header.specs.Header.{Header}
 use Rattle.header.specs.Tables.{parentsOf, headerOf, fitting, answer, written, outcomeOf, textsOf, fieldTable, columnTable, aliasTable, Answered}
 use Rattle.header.specs.declared.HeaderAnswer.{HeaderAnswer}
 use Rattle.header.specs.declared.HeaderAnswer.the-variants.{Accepted, Refused}
 use Rattle.header.proofs.BoundLaws.{each-owned}
-use Rattle.header.proofs.HeaderLaws.{header-read, opened-end, fields-few, columns-few, parents-inside, column-fields}
+use Rattle.header.proofs.HeaderLaws.{fields-few, parents-inside, column-fields}
 use Rattle.header_payload.specs.Answers.{scanOf}
-use Rattle.header_payload.specs.Kept.{kept, Settled}
 use Rattle.header_payload.specs.declared.HeaderScan.{HeaderScan}
-use Rattle.header_reader.specs.Fits.{Fits}
-use Rattle.header_reader.specs.Schema.{schemaOf, noSchema}
-use Rattle.header_reader.specs.declared.Schema.{Schema}
-use Rattle.header_reader.specs.declared.HeaderVerdict.the-variants.{Accepted as Taken, Refused as Turned}
-use Rattle.header_reader.proofs.FillLaws.{front, flat-wide, over-long}
+use Rattle.header_reader.specs.Fits.{Fits, Rows, Scanned}
+use Rattle.header_reader.proofs.ScanLaws.{fitting-true}
+use Rattle.header_reader.proofs.FillLaws.{front}
 
 -- a call that leaves the answer and the tables that are due
 answered : (x : Step Header) {f₀ f c₀ c a₀ a : List ℕ} {r : HeaderAnswer} → r ≡ answer (length f₀) (length c₀) (length a₀) x
@@ -51,14 +42,13 @@ pub answered-refused : {x : Step Header} {g : Fault} (f c a : List ℕ) → x �
 unfolding answer written
 answered-refused {x} f c a e = answered x (rw e) (rw e) (rw e) (rw e)
 
-both-true : (x y : Bool) → both x y ≡ true → (x ≡ true) × (y ≡ true)
-both-true true y e = (refl, e)
-both-true false y e = absurd (omega (arith, leb-true 1 0 e))
-
 -- a header that a scan found, and what it left in the arrays
-module _ (e : List ℕ) {scan : HeaderScan} {q : ℕ} (w : found scan q ≡ mapped scanOf (headerOf e)) {p₀ p f₀ f r₀ r c₀ c a₀ a : List ℕ} (k : Settled (headerOf e) p₀ p f₀ f r₀ r c₀ c a₀ a) where
+module _ (e : List ℕ) {scan : HeaderScan} {q : ℕ} (w : found scan q ≡ mapped scanOf (headerOf e)) {p r c a : List ℕ} (k : Scanned (headerOf e) p r c a) where
   m : Mapped scanOf (headerOf e) scan q
   m = mapped-found scanOf (headerOf e) w
+
+  left : Rows (m .value .lists) p r c a
+  left = k .holds (m .value) q (m .was)
 
   is-found : headerOf e ≡ found (m .value) q
   is-found = m .was
@@ -72,31 +62,11 @@ module _ (e : List ℕ) {scan : HeaderScan} {q : ℕ} (w : found scan q ≡ mapp
   aliases-count : scan .lists .aliases ≡ length (m .value .lists .aliases)
   aliases-count = ap (λ (x : HeaderScan). x .lists .aliases) (m .is)
 
-  parents-are : p ≡ over (parentsOf (m .value .lists .fields)) p₀
-  unfolding kept
-  parents-are = rw is-found at (k .parentsAre)
-
-  flags-are : f ≡ over (flagsOf (m .value .lists .fields)) f₀
-  unfolding kept
-  flags-are = rw is-found at (k .flagsAre)
-
-  fields-are : r ≡ over (flat (fieldWords 0) (m .value .lists .fields)) r₀
-  unfolding kept
-  fields-are = rw is-found at (k .fieldsAre)
-
-  columns-are : c ≡ over (columnTable (m .value .lists)) c₀
-  unfolding kept
-  columns-are = rw is-found at (k .columnsAre)
-
-  aliases-are : a ≡ over (aliasTable (m .value .lists)) a₀
-  unfolding kept
-  aliases-are = rw is-found at (k .aliasesAre)
-
   -- the dark marks
 
   some-parents : take (scan .lists .fields) p ≡ parentsOf (m .value .lists .fields)
   some-parents =
-      ap (take (scan .lists .fields)) parents-are
+      ap (take (scan .lists .fields)) (left .parentsAre)
       ∙ take-at (parentsOf (m .value .lists .fields)) _ (scan .lists .fields) (length-map (m .value .lists .fields) (λ (r : FieldRow). r .head .parent .0) ∙ sym fields-count)
 
   few : scan .lists .fields ≤ mostFields
@@ -112,7 +82,7 @@ module _ (e : List ℕ) {scan : HeaderScan} {q : ℕ} (w : found scan q ≡ mapp
 
   columns-back-are : columnsIn c (scan .lists .columns) ≡ m .value .lists .columns
   columns-back-are =
-      ap (λ (t : List ℕ). columnsIn t (scan .lists .columns)) columns-are ∙ ap (columnsIn (over (columnTable (m .value .lists)) c₀)) columns-count
+      ap (λ (t : List ℕ). columnsIn t (scan .lists .columns)) (left .columnsAre) ∙ ap (columnsIn (over (columnTable (m .value .lists)) (replicate (length c) 0))) columns-count
       ∙ columns-back .all (m .value .lists .columns) _
 
   mark-is : (i : ℕ) → darkMark p (scan .lists .fields) (columnsIn c (scan .lists .columns)) i ≡ bit (dark (parentsOf (m .value .lists .fields)) (m .value .lists .columns) i)
@@ -130,7 +100,7 @@ module _ (e : List ℕ) {scan : HeaderScan} {q : ℕ} (w : found scan q ≡ mapp
 
   fields-back-are : firstRows fieldRow r (scan .lists .fields) ≡ m .value .lists .fields
   fields-back-are =
-      ap (λ (t : List ℕ). firstRows fieldRow t (scan .lists .fields)) fields-are ∙ ap (firstRows fieldRow (over (flat (fieldWords 0) (m .value .lists .fields)) r₀)) fields-count
+      ap (λ (t : List ℕ). firstRows fieldRow t (scan .lists .fields)) (left .fieldsAre) ∙ ap (firstRows fieldRow (over (flat (fieldWords 0) (m .value .lists .fields)) (replicate (length r) 0))) fields-count
       ∙ rw (← flat-is (fieldWords 0) 0 (m .value .lists .fields)) (fields-back .all (λ _. 0) (m .value .lists .fields) _)
 
   fields-written : (F : List ℕ) {F′ : List ℕ} → F′ ≡ over (flatBy (λ i. fieldWords (darkMark p (scan .lists .fields) (columnsIn c (scan .lists .columns)) i)) 0 (firstRows fieldRow r (scan .lists .fields))) F
@@ -142,45 +112,11 @@ module _ (e : List ℕ) {scan : HeaderScan} {q : ℕ} (w : found scan q ≡ mapp
 
   columns-front : (take (columnWidth * (scan .lists .columns)) c ≡ columnTable (m .value .lists)) × (columnWidth * (scan .lists .columns) ≤ length c)
   unfolding columnWords
-  columns-front = front columnWords columnWidth (λ _. refl) (m .value .lists .columns) c₀ columns-count columns-are
+  columns-front = front columnWords columnWidth (λ _. refl) (m .value .lists .columns) (replicate (length c) 0) columns-count (left .columnsAre)
 
   aliases-front : (take (aliasWidth * (scan .lists .aliases)) a ≡ aliasTable (m .value .lists)) × (aliasWidth * (scan .lists .aliases) ≤ length a)
   unfolding aliasWords
-  aliases-front = front aliasWords aliasWidth (λ _. refl) (m .value .lists .aliases) a₀ aliases-count aliases-are
-
-  -- the arrays are as long as they were
-
-  pub fields-long : length r₀ ≡ fieldWidth * mostFields → fieldWidth * mostFields ≡ length r
-  unfolding fieldWords
-  fields-long z =
-      let s = flat-wide (fieldWords 0) fieldWidth (λ _. refl) (m .value .lists .fields) in
-      let b = fields-few e is-found in
-      let o = over-long (flat (fieldWords 0) (m .value .lists .fields)) r₀ (omega arith) in
-      let l = ap length fields-are in
-      omega arith
-
-  pub columns-long : length c₀ ≡ columnWidth * mostColumns → columnWidth * mostColumns ≡ length c
-  unfolding columnWords
-  columns-long z =
-      let s = flat-wide columnWords columnWidth (λ _. refl) (m .value .lists .columns) in
-      let b = columns-few e is-found in
-      let o = over-long (columnTable (m .value .lists)) c₀ (omega arith) in
-      let l = ap length columns-are in
-      omega arith
-
-  aliases-few : length (m .value .lists .aliases) ≤ mostAliases
-  aliases-few =
-      let h = header-read e is-found in
-      list-most (h .versions .strict) mostAliases (λ _ _. recordOf (h .versions .strict) (alias (flagsOf (m .value .lists .fields)) (length (m .value .lists .columns)))) (take (h .stop) e) (m .value .lists .aliasesAt) (h .parts .aliasesAre)
-
-  pub aliases-long : length a₀ ≡ aliasWidth * mostAliases → aliasWidth * mostAliases ≡ length a
-  unfolding aliasWords
-  aliases-long z =
-      let s = flat-wide aliasWords aliasWidth (λ _. refl) (m .value .lists .aliases) in
-      let b = aliases-few in
-      let o = over-long (aliasTable (m .value .lists)) a₀ (omega arith) in
-      let l = ap length aliases-are in
-      omega arith
+  aliases-front = front aliasWords aliasWidth (λ _. refl) (m .value .lists .aliases) (replicate (length a) 0) aliases-count (left .aliasesAre)
 
   module _ (F C A : List ℕ) where
     fits-same : fitting (length F) (length C) (length A) (scan .lists .fields) (scan .lists .columns) (scan .lists .aliases)
@@ -194,12 +130,8 @@ module _ (e : List ℕ) {scan : HeaderScan} {q : ℕ} (w : found scan q ≡ mapp
     module _ (x : true ≡ fitting (length F) (length C) (length A) (scan .lists .fields) (scan .lists .columns) (scan .lists .aliases)) where
       pub fits : Fits (scan .lists .fields) (scan .lists .columns) (scan .lists .aliases) (length c) (length a) (length F) (length C) (length A)
       fits =
-          let y = both-true (leb (scan .lists .fields) (length F / fieldWidth)) _ (sym x) in
-          let z = both-true (leb (scan .lists .columns) (length C / columnWidth)) (leb (scan .lists .aliases) (length A / aliasWidth)) (y .1) in
-          let i = leb-true (scan .lists .fields) (length F / fieldWidth) (y .0) in
-          let j = leb-true (scan .lists .columns) (length C / columnWidth) (z .0) in
-          let l = leb-true (scan .lists .aliases) (length A / aliasWidth) (z .1) in
-          record { few = few; columnsThere = columns-front .1; aliasesThere = aliases-front .1; fieldsFit = omega arith; columnsFit = omega arith; aliasesFit = omega arith }
+          let y = fitting-true (length F) (length C) (length A) (scan .lists .fields) (scan .lists .columns) (scan .lists .aliases) (sym x) in
+          record { few = few; columnsThere = columns-front .1; aliasesThere = aliases-front .1; fieldsFit = y .0; columnsFit = y .1; aliasesFit = y .2 }
 
       pub all-read : {F′ C′ A′ : List ℕ}
           → F′ ≡ over (flatBy (λ i. fieldWords (darkMark p (scan .lists .fields) (columnsIn c (scan .lists .columns)) i)) 0 (firstRows fieldRow r (scan .lists .fields))) F
@@ -214,27 +146,3 @@ module _ (e : List ℕ) {scan : HeaderScan} {q : ℕ} (w : found scan q ≡ mapp
           (rw (is-found, t) (fields-written F i))
           (rw (is-found, t) (j ∙ ap (λ (v : List ℕ). over v C) (columns-front .0)))
           (rw (is-found, t) (l ∙ ap (λ (v : List ℕ). over v A) (aliases-front .0)))
-
-  -- what is handed on
-
-  pub long-enough : 8 ≤ length e
-  long-enough = let h = header-read e is-found in opened-end 1 e (h .is-open) .0
-
-  pub schema-found : (sum : ℕ) → p₀ ≡ replicate mostFields 0 → f₀ ≡ replicate mostFields 0 → c₀ ≡ replicate (columnWidth * mostColumns) 0
-      → _≡_ {A = Schema} (record { verdict = Taken; checksum = sum; fields = scan .lists .fields; columns = scan .lists .columns; parents = p; flags = f; «column_rows» = c }) (schemaOf sum (headerOf e))
-  unfolding schemaOf
-  schema-found sum zp zf zc =
-      let i = parents-are ∙ ap (over (parentsOf (m .value .lists .fields))) zp in
-      let j = flags-are ∙ ap (over (flagsOf (m .value .lists .fields))) zf in
-      let l = columns-are ∙ ap (over (columnTable (m .value .lists))) zc in
-      rw is-found (λ t. record { verdict = Taken; checksum = sum; fields = fields-count t; columns = columns-count t; parents = i t; flags = j t; «column_rows» = l t })
-
--- a refused header hands nothing on but its fault
-pub schema-refused : (sum : ℕ) {x : Step Header} {g : Fault} {p₀ p f₀ f r₀ r c₀ c a₀ a : List ℕ} → x ≡ refused g → Settled x p₀ p f₀ f r₀ r c₀ c a₀ a
-    → _≡_ {A = Schema} (record { verdict = Turned g; checksum = 0; fields = 0; columns = 0; parents = p; flags = f; «column_rows» = c }) (schemaOf sum x)
-unfolding schemaOf noSchema kept
-schema-refused sum {g = g} {p = p} {f = f} {c = c} e k =
-    let i : p ≡ replicate mostFields 0 = rw e at (k .parentsAre) in
-    let j : f ≡ replicate mostFields 0 = rw e at (k .flagsAre) in
-    let l : c ≡ replicate (columnWidth * mostColumns) 0 = rw e at (k .columnsAre) in
-    rw e (λ t. record { verdict = Turned g; checksum = 0; fields = 0; columns = 0; parents = i t; flags = j t; «column_rows» = l t })

@@ -1,2 +1,1 @@
-pub mod Schema
 pub mod Fits

@@ -1,5 +1,8 @@
-// The rows of an accepted header, from the arrays of its scan into the lent tables.
+// From the scan of a header to the answer, and of an accepted one from the arrays of the scan into the lent tables.
+use header::HeaderAnswer;
+use header::HeaderTables;
 use header_payload::HeaderLists;
+use header_payload::ScanStep;
 use rows::FieldNumber;
 ghost use mathlib.Core.Path.{_≡_};
 ghost use Prim.Native.Nat.{_*_, _≤_};
@@ -8,8 +11,10 @@ ghost use Rattle.numbers.specs.Rows.{flatBy, over};
 ghost use Rattle.rows.specs.Words.{fieldWidth, columnWidth, aliasWidth, fieldWords};
 ghost use Rattle.rows.specs.Tables.{fieldRow, firstRows, columnsIn};
 ghost use Rattle.parents.specs.Dark.{darkMark};
-ghost use Rattle.header.specs.Tables.{fitting};
-ghost use Rattle.header_reader.specs.Fits.{Fits};
+ghost use Rattle.wire.specs.Reading.{mapped};
+ghost use Rattle.header.specs.Tables.{fitting, headerOf, Answered};
+ghost use Rattle.header_payload.specs.Answers.{scanStep, scanOf};
+ghost use Rattle.header_reader.specs.Fits.{Fits, Scanned, rowsThere};
 
 // The lent tables have room for the rows.
 pub fn has_room(lists: HeaderLists, fields: usize, columns: usize, aliases: usize) -> bool
@@ -31,8 +36,8 @@ fn fill_fields(table: &mut [u64], field_rows: &[u64], n: usize, marks: &[u64])
 {
     let mut i = 0;
     while i < n {
-        let row = header_rows::field_row(field_rows, FieldNumber(i as u64));
-        header_rows::put_field(table, FieldNumber(i as u64), row, marks[i]);
+        let row = field_rows::field_row(field_rows, FieldNumber(i as u64));
+        field_rows::put_field(table, FieldNumber(i as u64), row, marks[i]);
         i += 1;
     }
 }
@@ -59,4 +64,58 @@ pub fn fill_tables(
     rows::put_words(columns, 0, &column_rows[..column_words]);
     let alias_words = rows::ALIAS_WORDS * lists.aliases;
     rows::put_words(aliases, 0, &alias_rows[..alias_words]);
+}
+
+// Arrays of so many words had room for the rows that a scan found.
+pub fn rows_there(step: ScanStep, fields: usize, columns: usize, aliases: usize) -> bool
+    ensures { λ r. ⌜ r ≡ rowsThere fields columns aliases (scanStep step) ⌝ }
+{
+    match step {
+        ScanStep::Found(scan, _) => has_room(scan.lists, fields, columns, aliases),
+        ScanStep::Refused(_) => true,
+    }
+}
+
+// The answer for an envelope that was scanned, whose rows are in the arrays of the scan.
+pub fn answer_scan(
+    envelope: &[u8],
+    step: ScanStep,
+    parents: [usize; 512],
+    field_rows: &[u64],
+    column_rows: &[u64],
+    alias_rows: &[u64],
+    fields: &mut [u64],
+    columns: &mut [u64],
+    aliases: &mut [u64],
+) -> HeaderAnswer
+    requires { ⌜ scanStep step ≡ mapped scanOf (headerOf (now envelope)) ⌝ }
+    requires { ⌜ Scanned (headerOf (now envelope)) parents (now «field_rows») (now «column_rows») (now «alias_rows») ⌝ }
+    ensures { λ r. ⌜ Answered (headerOf (now (envelope .entry))) (now (fields .entry)) (now (fields .exit)) (now (columns .entry)) (now (columns .exit)) (now (aliases .entry)) (now (aliases .exit)) r ⌝ }
+{
+    match step {
+        ScanStep::Found(scan, _) => {
+            let lists = scan.lists;
+            let texts = scan.texts;
+            if has_room(lists, fields.len(), columns.len(), aliases.len()) {
+                fill_tables(
+                    lists,
+                    parents,
+                    field_rows,
+                    column_rows,
+                    alias_rows,
+                    fields,
+                    columns,
+                    aliases,
+                );
+                return HeaderAnswer::Accepted(HeaderTables {
+                    texts,
+                    fields: lists.fields,
+                    columns: lists.columns,
+                    aliases: lists.aliases,
+                });
+            }
+            HeaderAnswer::Refused(20)
+        }
+        ScanStep::Refused(f) => HeaderAnswer::Refused(f.number),
+    }
 }

@@ -1,4 +1,4 @@
-// A header's envelope, read once: the verdict on it, and the rows of its lists in arrays of the caller's.
+// A header's envelope, read once: the verdict on it, and the rows of its lists in tables of the caller's.
 mod chain;
 
 use envelope::OpenStep;
@@ -15,15 +15,15 @@ ghost use Rattle.header_payload.specs.Kept.{Settled};
 // The highest minimum version that is read.
 const SUPPORTED: u64 = 1;
 
-// The verdict on a header. Where it is accepted, the arrays have in front the parent, the flags and the row of each field (no dark
-// mark yet), and the rows of columns and aliases; where it is refused they are all zero.
+// The verdict on a header. Where it is accepted, the arrays have in front the parent and the flags of each field, and the tables the
+// rows of fields (no dark mark yet), columns and aliases, as far as each has room; where it is refused they are all zero.
 pub fn scan_header(
     envelope: &[u8],
     parents: &mut [usize; 512],
     flags: &mut [u64; 512],
-    fields: &mut [u64; 7680],
-    columns: &mut [u64; 4096],
-    aliases: &mut [u64; 512],
+    fields: &mut [u64],
+    columns: &mut [u64],
+    aliases: &mut [u64],
 ) -> ScanStep
     ensures { λ r. ⌜ scanStep r ≡ mapped scanOf (headerOf (now (envelope .entry))) ⌝ }
     ensures { λ r. ⌜ Settled (headerOf (now (envelope .entry))) (now (parents .entry)) (now (parents .exit)) (now (flags .entry)) (now (flags .exit)) (now (fields .entry)) (now (fields .exit)) (now (columns .entry)) (now (columns .exit)) (now (aliases .entry)) (now (aliases .exit)) ⌝ }
@@ -51,9 +51,9 @@ fn scan_chained(
     strict: bool,
     parents: &mut [usize; 512],
     flags: &mut [u64; 512],
-    fields: &mut [u64; 7680],
-    columns: &mut [u64; 4096],
-    aliases: &mut [u64; 512],
+    fields: &mut [u64],
+    columns: &mut [u64],
+    aliases: &mut [u64],
 ) -> ScanStep
     ensures { λ r. ⌜ scanStep r ≡ mapped scanOf (chained (now (s .entry)) (whole strict (payload strict) (now (s .entry)) 4)) ⌝ }
     ensures { λ r. ⌜ Settled (chained (now (s .entry)) (whole strict (payload strict) (now (s .entry)) 4)) (now (parents .entry)) (now (parents .exit)) (now (flags .entry)) (now (flags .exit)) (now (fields .entry)) (now (fields .exit)) (now (columns .entry)) (now (columns .exit)) (now (aliases .entry)) (now (aliases .exit)) ⌝ }

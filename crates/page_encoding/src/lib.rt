@@ -1,9 +1,6 @@
 // Pages encoded: the elements of a column to bytes.
 mod bit;
-mod difference;
 mod number;
-mod signed;
-mod turn;
 mod write;
 
 ghost use mathlib.Core.Path.{_≡_};

@@ -1,63 +1,19 @@
-// Numbers of one, two, four and eight bytes, the least significant first: read, and stored. Each by its halves, so that the compiler makes one load
-// or one store of it where its bytes stand side by side.
+// Numbers stored byte by byte, the least significant first.
 ghost use mathlib.Core.Path.{_≡_};
-ghost use Prim.Native.Nat.{ℕ, _+_, _*_, _-_, _/_, _%_, _^_, _<_, _≤_};
+ghost use Prim.Native.Nat.{ℕ, _+_, _<_, _≤_};
 ghost use lib.ListN.{length};
-ghost use Rattle.coding.specs.Layout.{WholeBytes};
-ghost use Rattle.coding.specs.Strides.{strided, puts};
+ghost use Rattle.coding.specs.Strides.{puts};
 
-// A number's bytes stored from a place on: one of them, two, four, eight.
-fn put_1(x: u64, at: usize, out: &mut [u8])
-    requires { ⌜ at < length (now out) ⌝ }
-    ensures { λ _. ⌜ now (out .exit) ≡ puts 1 x at (now (out .entry)) ⌝ }
-{
-    out[at] = (x % 256) as u8;
-}
-
-fn put_2(x: u64, at: usize, out: &mut [u8])
-    requires { ⌜ at + 2 ≤ length (now out) ⌝ }
-    ensures { λ _. ⌜ now (out .exit) ≡ puts 2 x at (now (out .entry)) ⌝ }
-{
-    put_1(x, at, out);
-    put_1(x / 256, at + 1, out);
-}
-
-pub fn put_4(x: u64, at: usize, out: &mut [u8])
-    requires { ⌜ at + 4 ≤ length (now out) ⌝ }
-    ensures { λ _. ⌜ now (out .exit) ≡ puts 4 x at (now (out .entry)) ⌝ }
-{
-    put_2(x, at, out);
-    put_2(x / 65536, at + 2, out);
-}
-
-pub fn put_8(x: u64, at: usize, out: &mut [u8])
-    requires { ⌜ at + 8 ≤ length (now out) ⌝ }
-    ensures { λ _. ⌜ now (out .exit) ≡ puts 8 x at (now (out .entry)) ⌝ }
-{
-    put_4(x, at, out);
-    put_4(x / 4294967296, at + 4, out);
-}
-
-// The same of k bytes, k a literal.
+// The k lowest bytes of a number, from a place on. Called with k a literal: the compiler makes one store of them.
 pub fn put_number(k: usize, x: u64, at: usize, out: &mut [u8])
-    requires { ⌜ WholeBytes k × (at + k ≤ length (now out)) ⌝ }
+    requires { ⌜ at + k ≤ length (now out) ⌝ }
     ensures { λ _. ⌜ now (out .exit) ≡ puts k x at (now (out .entry)) ⌝ }
 {
-    if k == 1 {
-        put_1(x, at, out);
-    } else if k == 2 {
-        put_2(x, at, out);
-    } else if k == 4 {
-        put_4(x, at, out);
-    } else {
-        put_8(x, at, out);
+    let mut rest = x;
+    let mut j: usize = 0;
+    while j < k {
+        out[at + j] = (rest % 256) as u8;
+        rest = rest / 256;
+        j += 1;
     }
-}
-
-// Byte j of a number, from the least significant.
-pub fn byte_of(x: u64, j: usize) -> u8
-    requires { ⌜ j < 8 ⌝ }
-    ensures { λ r. ⌜ r ≡ x / 256 ^ j % 256 ⌝ }
-{
-    ((x >> (8 * j)) % 256) as u8
 }

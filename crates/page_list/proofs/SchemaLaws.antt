@@ -14,14 +14,14 @@ use Rattle.header.specs.Tables.{headerOf, parentsOf, columnTable}
 use Rattle.rows.specs.Tables.{columnRow, columnsIn}
 use Rattle.rows.specs.Words.{mostFields, mostColumns, columnWidth, columnWords}
 use Rattle.header.specs.Beside.{refusal, inEnvelope}
-use Rattle.header_reader.specs.Schema.{schemaOf}
-use Rattle.header_reader.specs.declared.Schema.{Schema}
+use Rattle.header_schema.specs.Schema.{schemaOf}
+use Rattle.header_schema.specs.declared.Schema.{Schema}
 use Rattle.rows.specs.declared.FieldRow.{FieldRow}
 use Rattle.rows.specs.declared.ColumnRow.{ColumnRow}
 use Rattle.records.proofs.Bounds.{Bytes}
 use Rattle.rows.proofs.RowLaws.{columns-back}
-use Rattle.header_reader.proofs.SchemaLaws.{its-fields, its-columns, its-parents, its-flags, its-column-rows, schema-few, schema-column-bits, parents-front, flags-front}
-use Rattle.totals.proofs.Columns.{columns-length, column-at}
+use Rattle.header_schema.proofs.SchemaLaws.{its-fields, its-columns, its-parents, its-flags, its-column-rows, schema-few, schema-column-bits, parents-front, flags-front}
+use Rattle.rows.proofs.FirstRows.{rows-length, row-at}
 use Rattle.column_pages.specs.ColumnPages.{bitsOf, payload}
 use Rattle.column_pages.specs.Answers.{bitsIn}
 use Rattle.page_list.specs.PageList.{summed, pageListOf}
@@ -55,8 +55,8 @@ low-bits d (c ∷ cs) low =
 small-bits : (table : List ℕ) (n : ℕ) → ((i : ℕ) → i < n → columnRow table i .bits < 2 ^ 16) → bitsIn table n ≡ bitsOf (columnsIn table n)
 small-bits table n low =
     low-bits (columnRow table 0) (columnsIn table n) (λ i h.
-    let k = columns-length table n in
-    subst (λ (r : ColumnRow). r .bits < 2 ^ 16) (sym (column-at table n i (columnRow table 0) (omega arith))) (low i (omega arith)))
+    let k = rows-length columnRow table n in
+    subst (λ (r : ColumnRow). r .bits < 2 ^ 16) (sym (row-at columnRow table n i (columnRow table 0) (omega arith))) (low i (omega arith)))
 
 module _ (e : List ℕ) {r : Schema} (is : r ≡ schemaOf (checksumOf e) (headerOf e)) {h : Header} {p : ℕ} (w : headerOf e ≡ found h p) where
   pub schema-long : (length (r .parents) ≡ mostFields) × (length (r .flags) ≡ mostFields) × (length (r .«column_rows») ≡ columnWidth * mostColumns)

@@ -69,7 +69,7 @@ fn fill_page_list(
     match pages::page_list_head(s, at, total) {
         ListStep::Found(head, stop) => {
             let filled = fill_pages(table, frames::up_to(s, stop), at, head, column, bits, file);
-            frames::close_list(filled, strict, at, head.count, stop)
+            list_frames::close_list(filled, strict, at, head.count, stop)
         }
         ListStep::Refused(f) => NumberStep::Refused(f),
     }
@@ -96,7 +96,7 @@ fn fill_columns(
     while i < count {
         let from = rows::PAGE_WORDS * total;
         let column = ColumnNumber(i as u64);
-        let row = header_rows::column_row(columns, column);
+        let row = column_rows::column_row(columns, column);
         let bits = (row.bits % 65536) as u16;
         match fill_page_list(&mut table[from..], s, strict, at, column, bits, file, total) {
             NumberStep::Found(n, next) => {

@@ -11,9 +11,9 @@ use lib.ListN.{length}
 use Rattle.numbers.specs.Choice.{pick}
 use Rattle.frames.specs.declared.ListHead.{ListHead}
 use Rattle.wire.specs.Reading.{found, Rule, after, give, tested, mapped}
-use Rattle.wire.specs.Locator.{located, locator}
-use Rattle.wire.specs.declared.Range.{Range}
-use Rattle.wire.proofs.Laws.{located-by}
+use Rattle.locator.specs.Locator.{located, locator}
+use Rattle.locator.specs.declared.Range.{Range}
+use Rattle.locator.proofs.Laws.{located-by}
 use Rattle.frames.specs.Frames.{items, listHead, listCount, listStop}
 use Rattle.frames.proofs.Laws.{count-zero}
 use Rattle.frames.proofs.Loops.{Reached, reached-none, reached-more, reached-all}

@@ -5,7 +5,7 @@ use mathlib.Core.Bool.{Bool}
 use lib.Dec.{ltb, leb, eqb}
 use Rattle.numbers.specs.Numbers.{bytesFor}
 use Rattle.wire.specs.Reading.{Step, Rule, _>>=_, give, tested, unless}
-use Rattle.wire.specs.Locator.{located}
+use Rattle.locator.specs.Locator.{located}
 use Rattle.frames.specs.Frames.{items, listOf}
 use Rattle.frames.specs.declared.ListHead.{ListHead}
 use Rattle.rows.specs.Words.{mostPages}

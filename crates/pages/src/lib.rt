@@ -1,12 +1,12 @@
 // Pages, and the list of the pages of one column.
 use frames::ListHead;
 use frames::ListStep;
+use locator::RangeStep;
 use rows::ColumnNumber;
 use rows::PageRow;
 use wire::Fault;
 use wire::NumberStep;
 use wire::PlaceStep;
-use wire::RangeStep;
 ghost use mathlib.Core.Path.{_≡_};
 ghost use Prim.Native.Nat.{_^_, _≤_, _<_};
 ghost use Rattle.wire.specs.Reading.{mapped, inItem, tested};
@@ -70,7 +70,7 @@ pub fn page_at(s: &[u8], at: usize, column: ColumnNumber, bits: u16, file: u64) 
     match page_word_at(s, at) {
         NumberStep::Found(word, locator_place) => {
             let elements = word % 1073741824;
-            match wire::locator_at(s, locator_place, file, size_of(elements, bits)) {
+            match locator::locator_at(s, locator_place, file, size_of(elements, bits)) {
                 RangeStep::Found(range, next) => PageStep::Found(
                     PageRow {
                         column,
@@ -142,10 +142,10 @@ fn running_total(total: usize, n: usize) -> u16
 pub fn page_list_head(s: &[u8], at: usize, total: usize) -> ListStep
     ensures { λ r. ⌜ listStep r ≡ listHead (runningTotal total) (now (s .entry)) at ⌝ }
 {
-    match frames::list_head(s, at) {
+    match list_frames::list_head(s, at) {
         ListStep::Found(head, stop) => {
             let verdict = running_total(total, head.count);
-            frames::judge_count(head, at, stop, verdict)
+            list_frames::judge_count(head, at, stop, verdict)
         }
         ListStep::Refused(f) => ListStep::Refused(f),
     }

@@ -51,7 +51,7 @@ pub fn marks_of(parents: [usize; 512], n: usize, columns: &[u64], count: usize) 
     let mut marks = [0u64; 512];
     let mut i = 0;
     while i < count {
-        let column = header_rows::column_row(columns, ColumnNumber(i as u64));
+        let column = column_rows::column_row(columns, ColumnNumber(i as u64));
         if unknown_on(column, n) {
             darken(&parents, &mut marks, n, column.field);
         }

@@ -20,7 +20,8 @@ use Rattle.records.specs.Records.{repetition, fieldHead, fieldTexts, field, col
 use Rattle.parents.specs.Parents.{meets, allReach}
 use Rattle.header.specs.Header.{columnsAfter, aliasesAfter, lists, payload}
 use Rattle.header.specs.Tables.{headerOf, chained}
-use Rattle.clusters.specs.Clusters.{link, cluster, entriesOf}
+use Rattle.links.specs.Links.{link}
+use Rattle.clusters.specs.Clusters.{cluster, entriesOf}
 use Rattle.footer.specs.Footer.{footerOf, payload as footer-payload}
 use Rattle.page_list.specs.PageList.{pageListOf, summed}
 use Rattle.column_pages.specs.ColumnPages.{payload as page-list-payload, pagesOf}

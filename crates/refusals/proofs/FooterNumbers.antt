@@ -7,7 +7,8 @@ use lib.ListN.{length}
 use Rattle.wire.specs.Reading.{give}
 use Rattle.frames.specs.Frames.{atMost, recordOf}
 use Rattle.footer.specs.Footer.{names, noItems, empty, payload, footerOf}
-use Rattle.clusters.specs.Clusters.{link, startsAt, entryCount, cluster, entriesOf}
+use Rattle.links.specs.Links.{link}
+use Rattle.clusters.specs.Clusters.{startsAt, entryCount, cluster, entriesOf}
 use Rattle.refusals.specs.Refusals.{among, inFooter, FooterNumbers}
 use Rattle.refusals.proofs.Naming.{Naming, unless-judged, last-judged, naming-give, naming-bind, naming-number, naming-tested, naming-located, naming-features, naming-record, naming-list, judging-most, named-envelope}
 

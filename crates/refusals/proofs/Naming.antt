@@ -14,7 +14,7 @@ use Rattle.wire.specs.declared.Fault.{Fault}
 use Rattle.wire.specs.declared.Kind.{Kind}
 use Rattle.wire.specs.declared.Kind.the-variants.{Number, Text, Frame, Spare, Envelope}
 use Rattle.wire.specs.Reading.{Step, found, refused, Rule, after, _>>=_, give, here, fault, unless, number, judged, tested, inItem}
-use Rattle.wire.specs.Locator.{storedAs, inFile, located}
+use Rattle.locator.specs.Locator.{storedAs, inFile, located}
 use Rattle.wire.proofs.Laws.{never}
 use Rattle.frames.specs.declared.FrameSize.{FrameSize}
 use Rattle.frames.specs.declared.FrameSize.the-variants.{RecordSize, ListSize}

@@ -60,12 +60,12 @@ fn same_strings(old: &[u8], a: FieldTexts, new: &[u8], b: FieldTexts) -> bool
 fn same_field(old: &[u8], f: &[u64], new: &[u8], g: &[u64], i: u64) -> bool
     ensures { λ r. ⌜ r ≡ sameField (now (old .entry)) (now (f .entry)) (now (new .entry)) (now (g .entry)) i ⌝ }
 {
-    let a = header_rows::field_row(f, FieldNumber(i));
-    let b = header_rows::field_row(g, FieldNumber(i));
+    let a = field_rows::field_row(f, FieldNumber(i));
+    let b = field_rows::field_row(g, FieldNumber(i));
     if same_heads(a.head, b.head) {
         if same_strings(old, a.texts, new, b.texts) {
-            return header_rows::dark_mark(f, FieldNumber(i))
-                == header_rows::dark_mark(g, FieldNumber(i));
+            return field_rows::dark_mark(f, FieldNumber(i))
+                == field_rows::dark_mark(g, FieldNumber(i));
         }
     }
     false

@@ -17,7 +17,7 @@ use Rattle.rows.specs.declared.ColumnRow.{ColumnRow}
 use Rattle.totals.specs.Totals.{agrees, totalOf, counts, fieldAgrees, totals}
 use Rattle.totals.specs.declared.Totals.{Totals}
 use Rattle.totals.specs.declared.Totals.the-variants.{Agree, Differ}
-use Rattle.totals.proofs.Columns.{columns-length, column-at}
+use Rattle.rows.proofs.FirstRows.{rows-length, row-at}
 
 -- a field without columns, or columns without sums, agree
 no-columns : (entries f : ℕ) (cs : List ColumnRow) (sums : List ℕ) → (cs ≡ []) ⊎ (sums ≡ []) → totalOf entries f cs sums ≡ true
@@ -46,18 +46,18 @@ module _ {entries : ℕ} {table : List ℕ} {n : ℕ} {sums : List ℕ} where
         long = refl;
         marksAre = λ f h.
             getD-replicate {A = ℕ} mostFields f 1 0 h
-            ∙ sym (ap bit (no-columns entries f (drop i (columnsIn table n)) (drop i sums) (⊎-elim (λ e. inl (let l = columns-length table n in drop-of-length-le (columnsIn table n) {i = i} (omega arith))) (λ e. inr (drop-of-length-le sums {i = i} (omega arith))) w)));
+            ∙ sym (ap bit (no-columns entries f (drop i (columnsIn table n)) (drop i sums) (⊎-elim (λ e. inl (let l = rows-length columnRow table n in drop-of-length-le (columnsIn table n) {i = i} (omega arith))) (λ e. inr (drop-of-length-le sums {i = i} (omega arith))) w)));
       }
 
   module _ {i : ℕ} {marks : List ℕ} (m : Noted entries table n sums i marks) (more : 0 < i) where
     -- one column before them
     its : (d : ColumnRow) → drop (i - 1) (columnsIn table n) ≡ columnRow table (i - 1) ∷ drop i (columnsIn table n)
     its d =
-        let l = columns-length table n in
+        let l = rows-length columnRow table n in
         let a = m .most in
         let e : suc (i - 1) ≡ i = omega arith in
         drop-cons (columnsIn table n) (i - 1) d (omega arith)
-        ∙ (λ j. column-at table n (i - 1) d (omega arith) j ∷ drop (e j) (columnsIn table n))
+        ∙ (λ j. row-at columnRow table n (i - 1) d (omega arith) j ∷ drop (e j) (columnsIn table n))
 
     its-sum : drop (i - 1) sums ≡ getD sums (i - 1) 0 ∷ drop i sums
     its-sum =

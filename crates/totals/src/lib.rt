@@ -42,7 +42,7 @@ fn agreeing(entries: u64, columns: &[u64], n: usize, sums: &[u64]) -> [u64; 512]
     }
     while 0 < i {
         i -= 1;
-        let column = header_rows::column_row(columns, ColumnNumber(i as u64));
+        let column = column_rows::column_row(columns, ColumnNumber(i as u64));
         let field = column.field;
         let f = field.0 as usize;
         if f < rows::MOST_FIELDS {

@@ -11,9 +11,7 @@ use Rattle.numbers.specs.Choice.{pick}
 use Rattle.numbers.specs.Numbers.{Room, Little}
 use Rattle.wire.specs.declared.Fault.{Fault}
 use Rattle.wire.specs.declared.Kind.the-variants.{Number}
-use Rattle.wire.specs.Reading.{Step, found, refused, Rule, after, _>>=_, mapped, fault, give, number, tested, judged, counted, rowsOf}
-use Rattle.wire.specs.declared.Range.{Range}
-use Rattle.wire.specs.Locator.{storedAs, inFile, located, locator}
+use Rattle.wire.specs.Reading.{Step, found, refused, Rule, after, _>>=_, mapped, fault, number, judged, counted, rowsOf}
 
 -- what the count of a step's rows says of the step
 pub counted-found : {A : Type 0} {n p : ℕ} (x : Step (List A)) → counted x ≡ found n p → (x ≡ found (rowsOf x) p) × (length (rowsOf x) ≡ n)
@@ -80,16 +78,3 @@ judged-read verdict at e is = rw (e, is)
 pub judged-missing : (verdict : ℕ → ℕ) (at : ℕ) {x : Step ℕ} {f : Fault} → x ≡ refused f → refused f ≡ judged verdict at x
 unfolding judged
 judged-missing verdict at e = rw e
-
--- what follows a locator, by the locator alone
-pub located-by : {A : Type 0} (file size : ℕ) (rest : ℕ → ℕ → Rule A) (s : List ℕ) (at : ℕ) → located file size rest s at ≡ after (λ r. rest (r .size) (r .offset)) s (locator file size s at)
-unfolding locator
-located-by {A} file size rest s at = first (tested 4 (storedAs size) s at)
-  where
-    second : (stored : ℕ) (x : Step ℕ) → after (λ offset. rest stored offset) s x ≡ after (λ (r : Range). rest (r .size) (r .offset)) s (after (λ offset. give (record { size = stored; offset = offset })) s x)
-    second stored (found o p) = refl
-    second stored (refused f) = refl
-
-    first : (x : Step ℕ) → after (λ stored. tested 8 (inFile file stored) >>= (λ offset. rest stored offset)) s x ≡ after (λ (r : Range). rest (r .size) (r .offset)) s (after (λ stored. tested 8 (inFile file stored) >>= (λ offset. give (record { size = stored; offset = offset }))) s x)
-    first (found stored p) = second stored (tested 8 (inFile file stored) s p)
-    first (refused f) = refl

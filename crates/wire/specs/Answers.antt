@@ -5,9 +5,6 @@ use Rattle.wire.specs.declared.NumberStep.{NumberStep}
 use Rattle.wire.specs.declared.NumberStep.the-variants.{Found, Refused}
 use Rattle.wire.specs.declared.PlaceStep.{PlaceStep}
 use Rattle.wire.specs.declared.PlaceStep.the-variants.{Found as PlaceFound, Refused as PlaceRefused}
-use Rattle.wire.specs.declared.Range.{Range}
-use Rattle.wire.specs.declared.RangeStep.{RangeStep}
-use Rattle.wire.specs.declared.RangeStep.the-variants.{Found as RangeFound, Refused as RangeRefused}
 
 abbrev pub numberStep : NumberStep → Step ℕ
 numberStep (Found v p) = found v p
@@ -16,7 +13,3 @@ numberStep (Refused f) = refused f
 abbrev pub placeStep : PlaceStep → Step (Unit {0})
 placeStep (PlaceFound p) = found tt p
 placeStep (PlaceRefused f) = refused f
-
-abbrev pub rangeStep : RangeStep → Step Range
-rangeStep (RangeFound r p) = found r p
-rangeStep (RangeRefused f) = refused f

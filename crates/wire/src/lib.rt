@@ -1,16 +1,14 @@
-// What every reader stands on: little-endian numbers with verdicts on them, locators, and what a refusal
-// says.
+// What every reader stands on: little-endian numbers with verdicts on them, and what a refusal says.
 mod faults;
-mod locator;
 mod number;
 
 pub use faults::fault_at;
 pub use faults::fault_in_item;
-pub use locator::locator_at;
 pub use number::judge;
 pub use number::number_2;
 pub use number::number_4;
 pub use number::number_8;
+pub use number::unless_due;
 
 // What was refused, for the reader of a refusal.
 pub enum Kind {
@@ -42,17 +40,5 @@ pub enum NumberStep {
 // A place, or a refusal.
 pub enum PlaceStep {
     Found(usize),
-    Refused(Fault),
-}
-
-// A range of the file, as a locator has it.
-pub struct Range {
-    pub size: u64,
-    pub offset: u64,
-}
-
-// A range and the place after its locator, or a refusal.
-pub enum RangeStep {
-    Found(Range, usize),
     Refused(Fault),
 }

@@ -3,7 +3,8 @@ use crate::Kind;
 use crate::NumberStep;
 use crate::faults::fault_at;
 ghost use mathlib.Core.Path.{_≡_};
-ghost use Rattle.wire.specs.Reading.{found, number, judged};
+ghost use lib.Dec.{eqb};
+ghost use Rattle.wire.specs.Reading.{found, number, judged, unless};
 ghost use Rattle.wire.specs.Answers.{numberStep};
 
 // The number of two bytes at `at`; and likewise of four and eight.
@@ -46,4 +47,14 @@ pub fn judge(value: u64, at: usize, next: usize, verdict: u16) -> NumberStep
         return NumberStep::Found(value, next);
     }
     NumberStep::Refused(fault_at(verdict, Kind::Number, at))
+}
+
+// The verdict on a number that must be the one that is due: 0, or the number that refuses it.
+pub fn unless_due(value: u64, due: u64, number: u16) -> u16
+    ensures { λ r. ⌜ r ≡ unless (eqb value due) number 0 ⌝ }
+{
+    if value == due {
+        return 0;
+    }
+    number
 }

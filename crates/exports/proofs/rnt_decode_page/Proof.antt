@@ -14,14 +14,17 @@ cast-decode-page c = search needs
 decode-page-requires : tie.Need-decode-page-requires
 decode-page-requires c κs = search needs
 
-page-code-requires : tie.Need-page-code-requires
-page-code-requires c κs = search needs
+slice-aggregate-tell-page : tie.Need-slice-aggregate-tell-page
+slice-aggregate-tell-page c = search needs
+
+tell-page-requires : tie.Need-tell-page-requires
+tell-page-requires c κs = search needs
 
 same-length : tie.Need-same-length
 same-length c = search needs
 
 returns-2 : tie.Need-returns-2
-returns-2 c = (c .page-code .ensures ∙ ap codeOf (c .before .before .before .decode-page .ensures .0), c .before .before .before .decode-page .ensures .1)
+returns-2 c = (c .before .tell-page .ensures .0 ∙ ap codeOf (c .before .before .before .before .before .decode-page .ensures .0), c .before .before .before .before .before .decode-page .ensures .1)
 
 pub rnt-decode-page-spec : {M : Type 1} → statement M
 rnt-decode-page-spec =
@@ -30,6 +33,7 @@ rnt-decode-page-spec =
     returns
     cast-decode-page
     decode-page-requires
-    page-code-requires
+    slice-aggregate-tell-page
+    tell-page-requires
     same-length
     returns-2)

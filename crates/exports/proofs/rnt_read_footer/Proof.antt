@@ -5,22 +5,13 @@ use Rattle.exports.proofs.rnt_read_footer.Statement.{statement}
 use Rattle.exports.proofs.rnt_read_footer.Tie as tie
 
 returns : tie.Need-returns
-returns c = footer-short _ _ _ _ (c .if1 .taken)
+returns c = footer-short _ _ _ _ (omega arith)
 
 read-footer-requires : tie.Need-read-footer-requires
 read-footer-requires c κs = search needs
 
-footer-result-requires : tie.Need-footer-result-requires
-footer-result-requires c κs = search needs
-
-slice-aggregate-put-words : tie.Need-slice-aggregate-put-words
-slice-aggregate-put-words c = search needs
-
-put-words-requires : tie.Need-put-words-requires
-put-words-requires c κs = search needs
-
-footer-code-requires : tie.Need-footer-code-requires
-footer-code-requires c κs = search needs
+tell-footer-requires : tie.Need-tell-footer-requires
+tell-footer-requires c κs = search needs
 
 same-length : tie.Need-same-length
 same-length c = search needs
@@ -32,7 +23,7 @@ same-length-3 : tie.Need-same-length-3
 same-length-3 c = search needs
 
 returns-2 : tie.Need-returns-2
-returns-2 c = footer-called (omega arith) (c .before .before .before .before .before .before .before .before .before .before .before .read-footer .ensures) (c .before .before .before .before .before .before .footer-result .ensures) (c .before .before .before .put-words .ensures) (c .footer-code .ensures)
+returns-2 c = footer-called (omega arith) (c .before .before .before .before .before .before .before .before .read-footer .ensures) (c .before .before .tell-footer .ensures .0) (c .before .before .tell-footer .ensures .1)
 
 pub rnt-read-footer-spec : {M : Type 1} → statement M
 rnt-read-footer-spec =
@@ -40,10 +31,7 @@ rnt-read-footer-spec =
     (tie.spec
     returns
     read-footer-requires
-    footer-result-requires
-    slice-aggregate-put-words
-    put-words-requires
-    footer-code-requires
+    tell-footer-requires
     same-length
     same-length-2
     same-length-3

@@ -5,22 +5,13 @@ use Rattle.exports.proofs.rnt_read_header.Statement.{statement}
 use Rattle.exports.proofs.rnt_read_header.Tie as tie
 
 returns : tie.Need-returns
-returns c = header-short _ _ _ _ _ (c .if1 .taken)
+returns c = header-short _ _ _ _ _ (omega arith)
 
 read-header-requires : tie.Need-read-header-requires
 read-header-requires c κs = search needs
 
-header-result-requires : tie.Need-header-result-requires
-header-result-requires c κs = search needs
-
-slice-aggregate-put-words : tie.Need-slice-aggregate-put-words
-slice-aggregate-put-words c = search needs
-
-put-words-requires : tie.Need-put-words-requires
-put-words-requires c κs = search needs
-
-header-code-requires : tie.Need-header-code-requires
-header-code-requires c κs = search needs
+tell-header-requires : tie.Need-tell-header-requires
+tell-header-requires c κs = search needs
 
 same-length : tie.Need-same-length
 same-length c = search needs
@@ -35,7 +26,7 @@ same-length-4 : tie.Need-same-length-4
 same-length-4 c = search needs
 
 returns-2 : tie.Need-returns-2
-returns-2 c = header-called (omega arith) (c .before .before .before .before .before .before .before .before .before .before .before .before .before .read-header .ensures) (c .before .before .before .before .before .before .header-result .ensures) (c .before .before .before .put-words .ensures) (c .header-code .ensures)
+returns-2 c = header-called (omega arith) (c .before .before .before .before .before .before .before .before .before .before .read-header .ensures) (c .before .before .tell-header .ensures .0) (c .before .before .tell-header .ensures .1)
 
 pub rnt-read-header-spec : {M : Type 1} → statement M
 rnt-read-header-spec =
@@ -43,10 +34,7 @@ rnt-read-header-spec =
     (tie.spec
     returns
     read-header-requires
-    header-result-requires
-    slice-aggregate-put-words
-    put-words-requires
-    header-code-requires
+    tell-header-requires
     same-length
     same-length-2
     same-length-3

@@ -1,5 +1,5 @@
 use Rattle.envelope.specs.Answers.{openStep}
-use Rattle.header_reader.proofs.SchemaLaws.{header-accepted, header-refuses, its-checksum}
+use Rattle.header_schema.proofs.SchemaLaws.{header-accepted, header-refuses, its-checksum}
 use Rattle.footer.proofs.ReadLaws.{answered-refused, header-first, not-opened, footer-read}
 use mathlib.Core.Path.{sym, ap, _∙_}
 use borrow.Author.Needs.{needs}

@@ -1,7 +1,7 @@
 use mathlib.Core.Path.{sym}
 use native.Mathlib.Omega.{arith}
 use lib.Seq.{length-take-le}
-use Rattle.header_reader.proofs.SchemaLaws.{header-accepted, header-refuses}
+use Rattle.header_schema.proofs.SchemaLaws.{header-accepted, header-refuses}
 use Rattle.page_list.proofs.ReadLaws.{beside-refused}
 use Rattle.page_list.proofs.SchemaLaws.{beside-found, header-refused, fronts, schema-of}
 use borrow.Author.Needs.{needs}

@@ -21,11 +21,14 @@ write-all-requires c κs = tt
 loop-holds : tie.Need-loop-holds Inv-loop μ-loop
 loop-holds c = tt
 
-shared-slice-read-byte : tie.Need-shared-slice-read-byte Inv-loop μ-loop
-shared-slice-read-byte c = omega arith
+shared-slice-read-hex : tie.Need-shared-slice-read-hex Inv-loop μ-loop
+shared-slice-read-hex c = omega arith
 
-byte-requires : tie.Need-byte-requires Inv-loop μ-loop
-byte-requires c κs = tt
+cast-hex : tie.Need-cast-hex Inv-loop μ-loop
+cast-hex c = omega (arith, c .shared-slice-known2 .given (c .before .before .loop .i))
+
+hex-requires : tie.Need-hex-requires Inv-loop μ-loop
+hex-requires c κs = tt
 
 add-i : tie.Need-add-i Inv-loop μ-loop
 add-i c = omega arith
@@ -48,8 +51,9 @@ bytes-spec =
     slice-aggregate-write-all
     write-all-requires
     loop-holds
-    shared-slice-read-byte
-    byte-requires
+    shared-slice-read-hex
+    cast-hex
+    hex-requires
     add-i
     loop-less
     loop-again

@@ -4,7 +4,7 @@ use Rattle.wire.specs.Reading.{found, accepted}
 use Rattle.frames.specs.Frames.{listOf, listHead, atMost}
 use Rattle.frames.proofs.Loops.{list-accepted, list-rows, list-count}
 use Rattle.rows.specs.Words.{mostLinks}
-use Rattle.clusters.specs.Clusters.{link, linkList}
+use Rattle.links.specs.Links.{link, linkList}
 use mathlib.Core.Path.{_≡_, sym, _∙_}
 use native.Mathlib.Omega.{arith}
 use borrow.Author.Needs.{needs}

@@ -1,9 +1,9 @@
 use Prim.Native.Nat.{_+_, _*_, _-_, _≤_}
 use lib.ListN.{length}
 use Rattle.frames.proofs.Loops.{Filled, filled-none, filled-more, filled-all, reached-accepted}
-use Rattle.clusters.specs.Clusters.{link}
+use Rattle.links.specs.Links.{link}
 use Rattle.rows.specs.Words.{linkWidth, linkWords}
-use Rattle.clusters.specs.Answers.{linkStep}
+use Rattle.links.specs.Answers.{linkStep}
 use mathlib.Core.Path.{refl, sym, ap, _∙_}
 use native.Mathlib.Omega.{arith}
 use borrow.Author.Needs.{needs}

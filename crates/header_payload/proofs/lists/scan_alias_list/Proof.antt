@@ -1,16 +1,24 @@
-use mathlib.Core.Path.{_≡_}
+use Prim.Native.Nat.{ℕ}
+use mathlib.Core.Path.{sym, ap, _∙_}
 use native.Mathlib.Omega.{arith}
-use Rattle.numbers.specs.Rows.{flat}
-use Rattle.wire.specs.Reading.{found, refused}
-use Rattle.frames.specs.Frames.{recordOf, listOf, listHead, atMost}
-use Rattle.frames.proofs.Laws.{counted-closed, count-most}
-use Rattle.rows.specs.Words.{mostAliases, aliasWords}
+use lib.ListN.{take}
+use lib.Seq.{length-take-le}
+use Rattle.wire.specs.Reading.{counted}
+use Rattle.wire.specs.Answers.{numberStep}
+use Rattle.wire.specs.declared.NumberStep.{NumberStep}
+use Rattle.frames.specs.Frames.{recordOf, atMost}
+use Rattle.frames.specs.Answers.{listStep}
+use Rattle.rows.specs.Words.{mostAliases}
 use Rattle.records.specs.Records.{alias}
 use Rattle.header.specs.Header.{aliasList}
-use Rattle.header_payload.proofs.KeptLaws.{kept-list, kept-refused}
+use Rattle.header_payload.specs.Answers.{aliasesNext}
+use Rattle.header_payload.proofs.KeptLaws.{kept-list, counted-list, kept-refused, head-refused}
 use borrow.Author.Needs.{needs}
 use Rattle.header_payload.proofs.lists.scan_alias_list.Statement.{statement}
 use Rattle.header_payload.proofs.lists.scan_alias_list.Tie as tie
+
+enum-known-columns : tie.Need-enum-known-columns
+enum-known-columns c = search needs
 
 list-head-at-most-requires : tie.Need-list-head-at-most-requires
 list-head-at-most-requires c κs = search needs
@@ -18,15 +26,17 @@ list-head-at-most-requires c κs = search needs
 enum-known-head : tie.Need-enum-known-head
 enum-known-head c = search needs
 
+number-in-requires : tie.Need-number-in-requires
+number-in-requires c κs = search needs
+
 up-to-requires : tie.Need-up-to-requires
 up-to-requires c κs = search needs
 
+slice-aggregate-scan-aliases : tie.Need-slice-aggregate-scan-aliases
+slice-aggregate-scan-aliases c = sym (length-take-le _ _ (omega (arith, c .before .before .number-in .ensures, c .before .before .before .before .before .before .before .before .before .before .before .before .before .pre)))
+
 scan-aliases-requires : tie.Need-scan-aliases-requires
-scan-aliases-requires c κs =
-    let a = c .before .before .before .before .before .before .before .before .before .args in
-    let head : listHead (atMost mostAliases) (a .s .now) (a .at) ≡ found (c .before .before .before .head .given .0 .0) (c .before .before .before .head .given .0 .1 .0) = simp (← c .before .before .before .before .before .list-head-at-most .ensures, c .before .before .before .head .given .1) in
-    let most = count-most mostAliases (a .at) _ head in
-    omega arith
+scan-aliases-requires c κs = search needs
 
 close-list-requires : tie.Need-close-list-requires
 close-list-requires c κs = search needs
@@ -34,35 +44,52 @@ close-list-requires c κs = search needs
 enum-known-f : tie.Need-enum-known-f
 enum-known-f c = search needs
 
+enum-known-columns-2 : tie.Need-enum-known-columns-2
+enum-known-columns-2 c = search needs
+
 same-length : tie.Need-same-length
-same-length c = search needs
+same-length c = c .before .before .before .scan-aliases .kept .1 .1 .1 .1 .1 .1 .0
 
 returns : tie.Need-returns
-unfolding listOf
-returns c =
-    let a = c .before .before .before .before .before .before .before .before .before .before .before .before .before .args in
-    let head : listHead (atMost mostAliases) (a .s .now) (a .at) ≡ found (c .before .before .before .before .before .before .before .head .given .0 .0) (c .before .before .before .before .before .before .before .head .given .0 .1 .0) = simp (← c .before .before .before .before .before .before .before .before .before .list-head-at-most .ensures, c .before .before .before .before .before .before .before .head .given .1) in (
-      simp (head, counted-closed, ← c .before .before .before .before .before .up-to .ensures, ← c .before .before .before .scan-aliases .ensures .0, c .close-list .ensures),
-      kept-list (flat aliasWords) (a .strict) (atMost mostAliases) (λ _ _. recordOf (a .strict) (alias (a .flags .now) (a .columns))) (a .s .now) (a .at) head (rw (c .before .before .before .before .before .up-to .ensures) at (c .before .before .before .scan-aliases .ensures .1)),
+returns c = let a = c .before .before .before .before .before .before .before .before .before .before .before .before .before .before .before .before .before .before .args in
+    let m = c .before .before .before .before .before .before .before .before .before .before .before .before .before .columns .given .0 .0 in
+    let known = take (c .before .before .before .before .before .before .before .number-in .result) (a .flags .now) in
+    let is =
+    ap (λ (x : NumberStep). aliasesNext (a .strict) (a .s .now) (a .flags .now) (numberStep (a .fields)) (numberStep x)) (c .before .before .before .before .before .before .before .before .before .before .before .before .before .columns .given .1)
+    ∙ sym (ap (λ (n : ℕ). aliasList (a .strict) (take n (a .flags .now)) m (a .s .now) (c .before .before .before .before .before .before .before .before .before .before .before .before .before .columns .given .0 .1 .0)) (c .before .before .before .before .before .before .before .number-in .ensures)) in
+    let head = sym (c .before .before .before .before .before .before .before .before .before .before .before .list-head-at-most .ensures) ∙ ap listStep (c .before .before .before .before .before .before .before .before .before .head .given .1) in
+    let k = c .before .before .before .scan-aliases .ensures in (
+      counted-list (a .strict) (atMost mostAliases) (λ _ _. recordOf (a .strict) (alias known m)) (a .s .now) _ is head (c .before .before .before .before .before .before .up-to .ensures) (k .0) (c .close-list .ensures),
+      kept-list (a .strict) (atMost mostAliases) (λ _ _. recordOf (a .strict) (alias known m)) (a .s .now) _ is head (c .before .before .before .before .before .before .up-to .ensures) (k .1),
     )
 
 returns-2 : tie.Need-returns-2
-unfolding listOf
-returns-2 c =
-    let a = c .before .before .before .before .before .before .before .args in
-    let e : aliasList (a .strict) (a .flags .now) (a .columns) (a .s .now) (a .at) ≡ refused (c .before .f .given .0 .0) = simp (← c .before .before .before .list-head-at-most .ensures, c .before .f .given .1) in
-    (rw e, kept-refused e)
+returns-2 c = let a = c .before .before .before .before .before .before .before .before .before .before .args in
+    let m = c .before .before .before .before .before .columns .given .0 .0 in
+    let is = ap (λ (x : NumberStep). aliasesNext (a .strict) (a .s .now) (a .flags .now) (numberStep (a .fields)) (numberStep x)) (c .before .before .before .before .before .columns .given .1) in
+    let e = head-refused (a .strict) (atMost mostAliases) (λ _ _. recordOf (a .strict) (alias _ m)) (a .s .now) _ is (sym (c .before .before .before .list-head-at-most .ensures) ∙ ap listStep (c .before .f .given .1)) in
+    (sym (ap counted e), kept-refused e)
+
+returns-3 : tie.Need-returns-3
+returns-3 c = let a = c .before .before .before .before .before .before .args in
+    let e = ap (λ (x : NumberStep). aliasesNext (a .strict) (a .s .now) (a .flags .now) (numberStep (a .fields)) (numberStep x)) (c .before .columns2 .given .1) in
+    (sym (ap counted e), kept-refused e)
 
 pub scan-alias-list-spec : {M : Type 1} → statement M
 scan-alias-list-spec =
     tie.close
     (tie.spec
+    enum-known-columns
     list-head-at-most-requires
     enum-known-head
+    number-in-requires
     up-to-requires
+    slice-aggregate-scan-aliases
     scan-aliases-requires
     close-list-requires
     enum-known-f
+    enum-known-columns-2
     same-length
     returns
-    returns-2)
+    returns-2
+    returns-3)

@@ -19,18 +19,18 @@ slice-aggregate-crc32 c = let s = c .before .before in
 crc32-requires : tie.Need-crc32-requires
 crc32-requires c κs = search needs
 
-cast-put-4 : tie.Need-cast-put-4
-cast-put-4 c = search needs
+cast-put-number : tie.Need-cast-put-number
+cast-put-number c = search needs
 
-put-4-requires : tie.Need-put-4-requires
-put-4-requires c κs = search needs
+put-number-requires : tie.Need-put-number-requires
+put-number-requires c κs = search needs
 
 same-length : tie.Need-same-length
 same-length c = search needs
 
 returns : tie.Need-returns
 returns c = let s = c .before .before .before .before .before .before .before in
-    c .before .before .put-4 .ensures ∙ ap (λ (x : ℕ). puts 4 x (s .args .size) (now (s .args .out))) (c .before .before .before .before .crc32 .ensures)
+    c .before .before .put-number .ensures ∙ ap (λ (x : ℕ). puts 4 x (s .args .size) (now (s .args .out))) (c .before .before .before .before .crc32 .ensures)
 
 pub add-checksum-spec : {M : Type 1} → statement M
 add-checksum-spec =
@@ -39,7 +39,7 @@ add-checksum-spec =
     slice-reshare-prefix-crc32
     slice-aggregate-crc32
     crc32-requires
-    cast-put-4
-    put-4-requires
+    cast-put-number
+    put-number-requires
     same-length
     returns)

@@ -1,5 +1,5 @@
 -- `page_encoding::write::write_page` meets its contract, of a Bit page, a split page and a plain page. Assumes nothing.
-use mathlib.Core.Path.{_≡_, sym, ap, ap₂, _∙_, subst}
+use mathlib.Core.Path.{_≡_, refl, sym, ap, ap₂, _∙_, subst}
 use mathlib.Core.List.{List}
 use mathlib.Core.Bool.{Bool, true}
 use Prim.Native.Nat.{ℕ, _*_, _/_, _≤_}
@@ -10,7 +10,9 @@ use borrow.Author.Needs.{needs}
 use borrow.Author.Tests.{ne-eqb}
 use Rattle.numbers.specs.Rows.{over}
 use Rattle.column_type.specs.Types.{widthOf, delta, zigzag}
-use Rattle.coding.specs.Layout.{DeltaWidth, SplitWidth, WholeBytes, plain, planes, fit, codedBy}
+use Rattle.coding.specs.Layout.{WholeBytes, plain, fit}
+use Rattle.split_pages.specs.Split.{splitInto}
+use Rattle.split_pages.proofs.Codes.{into-fit}
 use Rattle.page_rules.proofs.Types.{OfBytes, of-bytes, whole, bit-width, bit-size}
 use Rattle.page_rules.proofs.Laid.{size-of}
 use Rattle.page_rules.proofs.Encoding.{bytes-bit, bytes-split, bytes-plain}
@@ -45,18 +47,8 @@ is-delta-requires c κs = search needs
 is-zigzag-requires : tie.Need-is-zigzag-requires
 is-zigzag-requires c κs = search needs
 
-write-split-page-requires : tie.Need-write-split-page-requires
-write-split-page-requires c κs = let s = c .before .before .before .before .before .before .before .before .before in
-    let o = of-whole-bytes s (c .before .before .before .before .before .if1 .left) in
-    let w = c .before .before .before .before .before .before .width-of .ensures in
-    let h = sym (c .before .before .before .before .is-split .ensures) ∙ c .before .before .before .if2 .taken in (
-      record {
-        ofSplit = subst SplitWidth (sym w) (o .of-split h);
-        ofDelta = λ d. subst DeltaWidth (sym w) (o .of-delta (sym (c .before .before .is-delta .ensures) ∙ d));
-        fits = subst (λ (x : ℕ). fit x (now (s .args .words)) ≡ true) (sym w) (s .pre .2);
-      },
-      room s (c .before .before .before .before .before .if1 .left) (c .before .before .before .before .before .before .width-of .result) w,
-    )
+write-split-requires : tie.Need-write-split-requires
+write-split-requires c κs = search needs
 
 write-plain-page-requires : tie.Need-write-plain-page-requires
 write-plain-page-requires c κs = let s = c .before .before .before .before .before .before .before in
@@ -78,11 +70,15 @@ returns-2 : tie.Need-returns-2
 returns-2 c = let s = c .before .before .before .before .before .before .before .before .before .before .before .before in
     let xs : List ℕ = now (s .args .words) in
     let t : ℕ = s .args .column-type in
-    let f : Bool → Bool → ℕ → List ℕ = λ d z w. over (planes (w / 8) (codedBy d z w xs)) (now (s .args .out)) in
-    c .before .before .write-split-page .ensures
-    ∙ ap₂ (λ (d z : Bool). f d z (c .before .before .before .before .before .before .before .before .before .width-of .result)) (c .before .before .before .before .before .is-delta .ensures) (c .before .before .before .before .is-zigzag .ensures)
-    ∙ ap (f (delta t) (zigzag t)) (c .before .before .before .before .before .before .before .before .before .width-of .ensures)
-    ∙ ap (λ (l : List ℕ). over l (now (s .args .out))) (bytes-split t xs (ne-eqb t 6 (c .before .before .before .before .before .before .before .before .if1 .left)) (sym (c .before .before .before .before .before .before .before .is-split .ensures) ∙ c .before .before .before .before .before .before .if2 .taken))
+    let no-bit = c .before .before .before .before .before .before .before .before .if1 .left in
+    let w = c .before .before .before .before .before .before .before .before .before .width-of .ensures in
+    let h = sym (c .before .before .before .before .before .before .before .is-split .ensures) ∙ c .before .before .before .before .before .before .if2 .taken in
+    let o = of-whole-bytes s no-bit in
+    c .before .before .write-split .ensures
+    ∙ ap₂ (λ (d z : Bool). splitInto d z (c .before .before .before .before .before .before .before .before .before .width-of .result) xs (now (s .args .out))) (c .before .before .before .before .before .is-delta .ensures) (c .before .before .before .before .is-zigzag .ensures)
+    ∙ ap (λ (v : ℕ). splitInto (delta t) (zigzag t) v xs (now (s .args .out))) w
+    ∙ into-fit (delta t) (zigzag t) (widthOf t) xs (now (s .args .out)) (o .of-split h) (o .of-delta) (s .pre .2) (room s no-bit (widthOf t) refl)
+    ∙ ap (λ (l : List ℕ). over l (now (s .args .out))) (bytes-split t xs (ne-eqb t 6 no-bit) h)
 
 same-length-3 : tie.Need-same-length-3
 same-length-3 c = search needs
@@ -107,7 +103,7 @@ write-page-spec =
     is-split-requires
     is-delta-requires
     is-zigzag-requires
-    write-split-page-requires
+    write-split-requires
     write-plain-page-requires
     same-length
     returns

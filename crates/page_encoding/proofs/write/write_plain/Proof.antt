@@ -40,7 +40,7 @@ mul-put-number-2 c = let a = c .before .before .before .before .before .args in
 
 put-number-requires : tie.Need-put-number-requires Inv-loop μ-loop
 put-number-requires c κs = let s = c .before .before .before .before .before .before in
-    (s .pre .0, omega (arith, within (s .args .k) (c .before .before .before .loop .i) (length (now (s .args .words))) (c .before .before .loop-test .taken), s .pre .1, c .before .before .before .loop .inv .1 .1))
+    omega (arith, within (s .args .k) (c .before .before .before .loop .i) (length (now (s .args .words))) (c .before .before .loop-test .taken), s .pre .1, c .before .before .before .loop .inv .1 .1)
 
 add-i : tie.Need-add-i Inv-loop μ-loop
 add-i c = omega arith

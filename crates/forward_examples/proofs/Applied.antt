@@ -1,0 +1,259 @@
+-- Demand 3 applied to calls for the examples, in all four parts: its hypotheses can be met, and the calls that it speaks of are there.
+use Prim.Native.Nat.{ℕ}
+use mathlib.Core.List.{List, [], _∷_, _++_}
+use mathlib.Core.Bool.{true}
+use mathlib.Core.Path.{_≡_, refl, sym, subst}
+use native.Mathlib.Omega.{arith}
+use lib.Dec.{eqb}
+use borrow.Author.Tests.{eq-eqb}
+use lib.ListN.{replicate}
+use Rattle.numbers.specs.Numbers.{little}
+use Rattle.numbers.specs.Rows.{flat, flatBy}
+use Rattle.checksum.specs.Crc.{shifted, bits, byte, fold, crc32}
+use Rattle.text.specs.Strings.{ascii}
+use Rattle.envelope.specs.Envelope.{checksumOf}
+use Rattle.column_type.specs.Types.{known, widthOf, widths}
+use Rattle.rows.specs.Words.{fieldWords, columnWords, aliasWords}
+use Rattle.parents.specs.Parents.{meets, allReach}
+use Rattle.parents.specs.Dark.{dark}
+use Rattle.header.specs.Tables.{headerOf, answer, written, Answered}
+use Rattle.header.specs.declared.HeaderTables.{HeaderTables}
+use Rattle.header.specs.declared.HeaderAnswer.the-variants.{Accepted}
+use Rattle.footer.specs.Tables.{footerBeside, answer as footer-answer, written as footer-written, Answered as AnsweredFooter}
+use Rattle.footer.specs.declared.FooterAnswer.{FooterAnswer}
+use Rattle.footer.specs.declared.FooterAnswer.the-variants.{Accepted as AcceptedFooter}
+use Rattle.column_pages.specs.ColumnPages.{bitsOf, pagesOf}
+use Rattle.page_list.specs.Tables.{pageListBeside, answer as pages-answer, written as pages-written, Answered as AnsweredPages}
+use Rattle.page_list.specs.declared.PageListAnswer.{PageListAnswer}
+use Rattle.page_list.specs.declared.PageListAnswer.the-variants.{Accepted as AcceptedPages}
+use Rattle.tree.specs.Bytes.{spelled, Bytes}
+use Rattle.tree.specs.EnvelopeTree.{unsummed, sealed}
+use Rattle.tree.specs.HeaderTree.{featureWords, textsShape, listsShape, payloadShape, headShape, stringsShape, fieldShape, columnShape, aliasShape, HeaderTree, renderHeader, tablesOf, RightHeader}
+use Rattle.tree.specs.FooterTree.{footerShape, clusterShape, linkShape, FooterTree, renderFooter, RightFooter}
+use Rattle.tree.specs.PageListTree.{pageListShape, pagesShape, pageShape, PageListTree, renderPageList, RightPageList}
+use Rattle.tree.proofs.Place.{bytes-tested}
+use Rattle.tree.proofs.Envelope.{checksum-bound}
+use Rattle.forward_examples.specs.Example.{textsAt, plainHeader, newerHeader, appendedFields, appendedColumns, appendedHeader, plainFooter, newerFooter, plainPageList, newerPageList, plainRead}
+use Rattle.forward.specs.SameTables.{SameAnswer}
+use Rattle.forward.specs.HeaderForward.{HeaderKept, ChosenHeader}
+use Rattle.forward.specs.HeaderAppend.{KeepsRows, Appends, AppendKept}
+use Rattle.forward.specs.ReadersForward.{FooterKept, ChosenFooter, PageListKept, ChosenPageList}
+use Rattle.forward.proofs.Demand3.{demand-3}
+use Rattle.forward_examples.proofs.Extensible.{extensible, appendable}
+
+-- the trees of the plain envelopes keep the rules
+
+plain-right : RightHeader plainHeader
+unfolding payloadShape textsShape listsShape fieldShape headShape stringsShape columnShape aliasShape ascii known widthOf widths allReach meets
+plain-right =
+    record {
+      envelope = record {
+        versionFits = omega arith;
+        least = omega arith;
+        order = omega arith;
+        read = omega arith;
+        valid = (
+          (tt, (refl, (refl, tt))),
+          (
+            (
+              (
+                omega arith,
+                refl,
+                (
+                  (((omega arith, refl), ((omega arith, refl), ((omega arith, refl), ((omega arith, refl), ((omega arith, refl), (refl, tt)))))), ((refl, (refl, (refl, (refl, tt)))), tt)),
+                  ((((omega arith, refl), ((omega arith, refl), ((omega arith, refl), ((omega arith, refl), ((omega arith, refl), (refl, tt)))))), ((refl, (refl, (refl, (refl, tt)))), tt)), tt),
+                ),
+              ),
+              (
+                (
+                  omega arith,
+                  refl,
+                  (
+                    ((omega arith, refl), ((omega arith, refl), ((omega arith, refl), ((omega arith, refl), tt)))),
+                    (((omega arith, refl), ((omega arith, refl), ((omega arith, refl), ((omega arith, refl), tt)))), tt),
+                  ),
+                ),
+                ((omega arith, refl, (((omega arith, refl), ((omega arith, refl), tt)), tt)), tt),
+              ),
+            ),
+            tt,
+          ),
+        );
+        plain = λ _. ((tt, (((((tt, refl), ((tt, refl), tt)), refl), ((((tt, refl), ((tt, refl), tt)), refl), ((((tt, refl), tt), refl), tt))), tt)), refl);
+      };
+      small = omega (arith, extensible .headerBytes);
+      chains = refl;
+    }
+
+plain-footer-right : RightFooter (checksumOf (renderHeader plainHeader)) 140 plainFooter
+unfolding footerShape clusterShape linkShape
+plain-footer-right =
+    let c = checksumOf (renderHeader plainHeader) in
+    let same : eqb c c ≡ true = eq-eqb c c refl in
+    record {
+      versionFits = omega arith;
+      least = omega arith;
+      order = omega arith;
+      read = omega arith;
+      valid = (tt, ((checksum-bound (unsummed (λ _. payloadShape) plainHeader), rw same refl), ((omega arith, refl, tt), ((omega arith, refl, tt), ((omega arith, refl, (((omega arith, refl), ((omega arith, refl), (((omega arith, refl), ((omega arith, refl), ((omega arith, refl), tt))), tt))), tt)), ((omega arith, refl, (((omega arith, refl), ((omega arith, refl), ((omega arith, refl), tt))), tt)), tt))))));
+      plain = λ _. ((tt, (tt, ((tt, refl), ((tt, refl), ((((tt, refl), tt), refl), (((tt, tt), refl), tt)))))), refl);
+    }
+
+plain-page-list-right : RightPageList 76 (bitsOf (tablesOf plainHeader .columns)) plainPageList
+unfolding pageListShape pagesShape pageShape
+plain-page-list-right =
+    record {
+      versionFits = omega arith;
+      least = omega arith;
+      order = omega arith;
+      read = omega arith;
+      valid = (omega arith, refl, ((omega arith, refl, (((omega arith, refl), ((omega arith, refl), ((omega arith, refl), tt))), tt)), ((omega arith, refl, (((omega arith, refl), ((omega arith, refl), ((omega arith, refl), tt))), tt)), tt)));
+      plain = λ _. (((((tt, tt), refl), (((tt, tt), refl), tt)), refl), refl);
+    }
+
+-- their bytes
+
+plain-bytes : Bytes (renderHeader plainHeader)
+unfolding sealed unsummed payloadShape textsShape listsShape featureWords spelled fieldShape headShape stringsShape columnShape aliasShape crc32 fold byte bits shifted
+plain-bytes = bytes-tested (renderHeader plainHeader) refl
+
+plain-footer-bytes : Bytes (renderFooter plainFooter)
+unfolding sealed unsummed payloadShape textsShape listsShape featureWords spelled fieldShape headShape stringsShape columnShape aliasShape footerShape clusterShape linkShape little crc32 fold byte bits shifted
+plain-footer-bytes = bytes-tested (renderFooter plainFooter) refl
+
+plain-page-list-bytes : Bytes (renderPageList plainPageList)
+unfolding sealed unsummed pageListShape pagesShape pageShape spelled crc32 fold byte bits shifted
+plain-page-list-bytes = bytes-tested (renderPageList plainPageList) refl
+
+-- Calls of the header reader: the tables that are lent, and what the calls leave in them. A word more than the rows stays.
+
+abbrev lent-fields : List ℕ
+lent-fields = replicate 31 9
+
+-- the row of such a field whose record stands at a place
+abbrev field-row : ℕ → ℕ → ℕ → ℕ → List ℕ
+field-row p parent flags mark =
+    let t = textsAt p in
+    1 ∷ 2 ∷ parent ∷ 0 ∷ flags ∷ 0 ∷ t .name .place ∷ 1 ∷ t .«type_name» .place ∷ 0 ∷ t .«type_alias» .place ∷ 0 ∷ t .description .place ∷ 0 ∷ mark ∷ []
+
+-- both fields are dark: the column of an unknown type hangs on the second, below the first
+abbrev left-fields : ℕ → List ℕ
+left-fields p = field-row 30 0 0 1 ++ field-row p 0 2 1 ++ (9 ∷ [])
+
+abbrev lent-columns : List ℕ
+lent-columns = replicate 9 9
+
+abbrev left-columns : List ℕ
+left-columns = 1 ∷ 64 ∷ 0 ∷ 0 ∷ 99 ∷ 5 ∷ 1 ∷ 0 ∷ 9 ∷ []
+
+abbrev lent-aliases : List ℕ
+lent-aliases = replicate 3 9
+
+abbrev left-aliases : List ℕ
+left-aliases = 0 ∷ 1 ∷ 9 ∷ []
+
+-- the answer in so many fields and columns
+abbrev counted : ℕ → ℕ → HeaderTables
+counted fields columns = record { texts = plainRead .texts; fields = fields; columns = columns; aliases = 1 }
+
+plain-call : Answered (headerOf (renderHeader plainHeader)) lent-fields (left-fields 67) lent-columns left-columns lent-aliases left-aliases (Accepted (counted 2 2))
+unfolding answer written fieldWords columnWords aliasWords flat flatBy dark known meets
+plain-call = rw (extensible .headerReads) (record { answers = refl; reports = refl; reportsTexts = refl; fieldsAre = refl; columnsAre = refl; aliasesAre = refl })
+
+pub newer-call : Answered (headerOf (renderHeader newerHeader)) lent-fields (left-fields 69) lent-columns left-columns lent-aliases left-aliases (Accepted (counted 2 2))
+unfolding answer written fieldWords columnWords aliasWords flat flatBy dark known meets
+newer-call = rw (extensible .newerHeaderReads) (record { answers = refl; reports = refl; reportsTexts = refl; fieldsAre = refl; columnsAre = refl; aliasesAre = refl })
+
+-- the call for the header with more rows has tables of its own, with room for them
+
+abbrev more-fields : List ℕ
+more-fields = field-row 30 0 0 1 ++ field-row 67 0 2 1 ++ field-row 104 2 0 0 ++ (5 ∷ 5 ∷ [])
+
+abbrev more-columns : List ℕ
+more-columns = 1 ∷ 64 ∷ 0 ∷ 0 ∷ 99 ∷ 5 ∷ 1 ∷ 0 ∷ 1 ∷ 64 ∷ 2 ∷ 0 ∷ []
+
+pub appended-call : Answered (headerOf (renderHeader appendedHeader)) (replicate 47 5) more-fields (replicate 12 5) more-columns (replicate 2 5) (0 ∷ 1 ∷ []) (Accepted (counted 3 3))
+unfolding answer written fieldWords columnWords aliasWords flat flatBy dark known meets
+appended-call = rw (appendable .appendedReads) (record { answers = refl; reports = refl; reportsTexts = refl; fieldsAre = refl; columnsAre = refl; aliasesAre = refl })
+
+-- added bytes: the newer header's call leaves tables that say the same
+
+header-kept : HeaderKept (renderHeader plainHeader) lent-fields (left-fields 67) lent-columns left-columns lent-aliases left-aliases (counted 2 2)
+header-kept = demand-3 .header (renderHeader plainHeader) lent-fields (left-fields 67) lent-columns left-columns lent-aliases left-aliases (counted 2 2) plain-bytes plain-call
+
+pub newer-kept : SameAnswer (renderHeader plainHeader) (left-fields 67) left-columns left-aliases (counted 2 2) (renderHeader newerHeader) (left-fields 69) left-columns left-aliases (Accepted (counted 2 2))
+newer-kept =
+    let tree = header-kept .header .only plainHeader plain-right refl in
+    header-kept .forward newerHeader (subst (λ (t : HeaderTree). ChosenHeader t newerHeader) tree (extensible .header)) (omega (arith, extensible .newerHeaderBytes)) (left-fields 69) left-columns left-aliases (Accepted (counted 2 2)) newer-call
+
+-- an appended field with its column: the call keeps the earlier rows
+
+append-kept : AppendKept (renderHeader plainHeader) (left-fields 67) left-columns left-aliases (counted 2 2)
+append-kept = demand-3 .append (renderHeader plainHeader) lent-fields (left-fields 67) lent-columns left-columns lent-aliases left-aliases (counted 2 2) plain-bytes plain-call
+
+pub appended-kept : KeepsRows (renderHeader plainHeader) (left-fields 67) left-columns left-aliases (counted 2 2) 1 1 (renderHeader appendedHeader) more-fields more-columns (0 ∷ 1 ∷ []) (Accepted (counted 3 3))
+appended-kept =
+    let tree = append-kept .header .only plainHeader plain-right refl in
+    let appends = subst (λ (t : HeaderTree). Appends (renderHeader plainHeader) (left-fields 67) left-columns left-aliases (counted 2 2) t) (sym tree) (append-kept .append) in
+    appends appendedFields appendedColumns (appendable .appendix) (replicate 47 5) _ (replicate 12 5) _ (replicate 2 5) _ (Accepted (counted 3 3)) (omega arith) (omega arith) (omega arith) appended-call
+
+-- footers: there is a call for the newer header and the newer footer, and each gives the same answer and leaves the same tables
+
+abbrev lent-clusters : List ℕ
+lent-clusters = replicate 5 9
+
+abbrev left-clusters : List ℕ
+left-clusters = 0 ∷ 3 ∷ 40 ∷ 100 ∷ 9 ∷ []
+
+abbrev lent-links : List ℕ
+lent-links = replicate 3 9
+
+abbrev left-links : List ℕ
+left-links = 7 ∷ 0 ∷ 9 ∷ []
+
+plain-footer-call : AnsweredFooter (footerBeside (renderHeader plainHeader) (renderFooter plainFooter) 140) lent-clusters left-clusters lent-links left-links (AcceptedFooter 1 1)
+unfolding footer-answer footer-written flat
+plain-footer-call = rw (extensible .footerReads) (record { answers = refl; reports = refl; clustersAre = refl; metadataAre = refl })
+
+pub newer-footer-call : AnsweredFooter (footerBeside (renderHeader newerHeader) (renderFooter newerFooter) 140) lent-clusters left-clusters lent-links left-links (AcceptedFooter 1 1)
+unfolding footer-answer footer-written flat
+newer-footer-call = rw (extensible .newerFooterReads) (record { answers = refl; reports = refl; clustersAre = refl; metadataAre = refl })
+
+footer-kept : FooterKept (renderHeader plainHeader) (renderFooter plainFooter) 140 lent-clusters left-clusters lent-links left-links (AcceptedFooter 1 1)
+footer-kept =
+    demand-3 .footer (renderHeader plainHeader) (renderFooter plainFooter) 140 lent-clusters left-clusters lent-links left-links 1 1 plain-bytes plain-footer-bytes plain-footer-call
+
+pub newer-footer-kept : (c m : List ℕ) (r : FooterAnswer) → AnsweredFooter (footerBeside (renderHeader newerHeader) (renderFooter newerFooter) 140) lent-clusters c lent-links m r
+    → (r ≡ AcceptedFooter 1 1) × (c ≡ left-clusters) × (m ≡ left-links)
+newer-footer-kept =
+    let tree = footer-kept .header .only plainHeader plain-right refl in
+    let tree′ = footer-kept .footer .only plainFooter plain-footer-right refl in
+    footer-kept .forward newerHeader newerFooter (subst (λ (t : HeaderTree). ChosenHeader t newerHeader) tree (extensible .header)) (subst (λ (u : FooterTree). ChosenFooter (checksumOf (renderHeader newerHeader)) u newerFooter) tree′ (extensible .footer)) (omega (arith, extensible .newerHeaderBytes)) (omega (arith, extensible .newerFooterBytes))
+
+-- page lists: the same
+
+abbrev lent-pages : List ℕ
+lent-pages = replicate 11 9
+
+abbrev left-pages : List ℕ
+left-pages = 0 ∷ 3 ∷ 0 ∷ 24 ∷ 50 ∷ 1 ∷ 3 ∷ 1 ∷ 2 ∷ 74 ∷ 9 ∷ []
+
+plain-page-list-call : AnsweredPages (pageListBeside (renderHeader plainHeader) (renderPageList plainPageList) 3 76) lent-pages left-pages (AcceptedPages 2)
+unfolding pages-answer pages-written flat pagesOf
+plain-page-list-call = rw (extensible .pageListReads) (record { answers = refl; reports = refl; pagesAre = refl })
+
+pub newer-page-list-call : AnsweredPages (pageListBeside (renderHeader newerHeader) (renderPageList newerPageList) 3 76) lent-pages left-pages (AcceptedPages 2)
+unfolding pages-answer pages-written flat pagesOf
+newer-page-list-call = rw (extensible .newerPageListReads) (record { answers = refl; reports = refl; pagesAre = refl })
+
+page-list-kept : PageListKept (renderHeader plainHeader) (renderPageList plainPageList) 3 76 lent-pages left-pages (AcceptedPages 2)
+page-list-kept =
+    demand-3 .pageList (renderHeader plainHeader) (renderPageList plainPageList) 3 76 lent-pages left-pages 2 plain-bytes plain-page-list-bytes plain-page-list-call
+
+pub newer-page-list-kept : (p : List ℕ) (r : PageListAnswer) → AnsweredPages (pageListBeside (renderHeader newerHeader) (renderPageList newerPageList) 3 76) lent-pages p r
+    → (r ≡ AcceptedPages 2) × (p ≡ left-pages)
+newer-page-list-kept =
+    let tree = page-list-kept .header .only plainHeader plain-right refl in
+    let right = subst (λ (t : HeaderTree). RightPageList 76 (bitsOf (tablesOf t .columns)) plainPageList) tree plain-page-list-right in
+    let tree′ = page-list-kept .pageList .only plainPageList right refl in
+    page-list-kept .forward newerHeader newerPageList (subst (λ (t : HeaderTree). ChosenHeader t newerHeader) tree (extensible .header)) (subst (λ (u : PageListTree). ChosenPageList u newerPageList) tree′ (extensible .pageList)) (omega (arith, extensible .newerHeaderBytes)) (omega (arith, extensible .newerPageListBytes))

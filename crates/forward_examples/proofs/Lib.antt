@@ -1,0 +1,4 @@
+pub mod Samples
+pub mod Vectors
+pub mod Extensible
+pub mod Applied

@@ -1,0 +1,20 @@
+-- A locator, and what follows it.
+use Prim.Native.Nat.{ℕ}
+use mathlib.Core.Path.{_≡_, refl}
+use mathlib.Core.List.{List}
+use Rattle.wire.specs.Reading.{Step, found, refused, Rule, after, _>>=_, give, tested}
+use Rattle.locator.specs.declared.Range.{Range}
+use Rattle.locator.specs.Locator.{storedAs, inFile, located, locator}
+
+-- what follows a locator, by the locator alone
+pub located-by : {A : Type 0} (file size : ℕ) (rest : ℕ → ℕ → Rule A) (s : List ℕ) (at : ℕ) → located file size rest s at ≡ after (λ r. rest (r .size) (r .offset)) s (locator file size s at)
+unfolding locator
+located-by {A} file size rest s at = first (tested 4 (storedAs size) s at)
+  where
+    second : (stored : ℕ) (x : Step ℕ) → after (λ offset. rest stored offset) s x ≡ after (λ (r : Range). rest (r .size) (r .offset)) s (after (λ offset. give (record { size = stored; offset = offset })) s x)
+    second stored (found o p) = refl
+    second stored (refused f) = refl
+
+    first : (x : Step ℕ) → after (λ stored. tested 8 (inFile file stored) >>= (λ offset. rest stored offset)) s x ≡ after (λ (r : Range). rest (r .size) (r .offset)) s (after (λ stored. tested 8 (inFile file stored) >>= (λ offset. give (record { size = stored; offset = offset }))) s x)
+    first (found stored p) = second stored (tested 8 (inFile file stored) s p)
+    first (refused f) = refl
