@@ -132,6 +132,10 @@ fn per_element(seconds: f64) -> String {
     format!("{:.3} ns/element", seconds / ELEMENTS as f64 * 1e9)
 }
 
+fn per_call(seconds: f64) -> String {
+    format!("{:.2} us/call", seconds * 1e6)
+}
+
 fn checksums(random: &mut Random) {
     for (name, length) in [("64 B", 64), ("1 KiB", 1_024), ("64 KiB", 65_536), ("1 MiB", 1_048_576)] {
         let bytes = random.bytes(length);
@@ -248,22 +252,64 @@ fn smallest_header() -> Vec<u8> {
     writer.bytes
 }
 
-fn headers(random: &mut Random) {
-    let envelope = largest_header(random);
+/// A header as of a small file, of about 400 bytes.
+fn small_header(random: &mut Random) -> Vec<u8> {
+    let mut header = writer::Header {
+        name: text(random, 12),
+        ..Default::default()
+    };
+    header.fields.items = (0..4u32)
+        .map(|i| writer::Field {
+            parent: i,
+            strings: [8, 12, 0, 0].map(|length| text(random, length)),
+            ..Default::default()
+        })
+        .collect();
+    header.columns.items = (0..4u32)
+        .map(|i| writer::Column {
+            column_type: 13,
+            bits: stored_bits(13).expect("a known type"),
+            field: i,
+            ..Default::default()
+        })
+        .collect();
+    let mut writer = Writer::default();
+    writer.header(&header);
+    writer.bytes
+}
+
+/// The times of reading a header, and how many fields, columns and aliases it
+/// has.
+fn header_times(envelope: &[u8]) -> (Times, [u64; 3]) {
     let mut tables = (vec![0; 512 * 15], vec![0; 1_024 * 4], vec![0; 256 * 2], [0; 7]);
+    let (_, words) = reference::read_header(envelope, &mut tables.0.clone(), &mut tables.1.clone(), &mut tables.2.clone());
+    let counts = [words[4], words[5], words[6]];
     let times = contest(
         &mut tables,
         &|(fields, columns, aliases, result)| {
-            assert_eq!(calls::read_header(&envelope, fields, columns, aliases, result), 0);
+            assert_eq!(calls::read_header(envelope, fields, columns, aliases, result), 0);
         },
         &[("Rust", &|(fields, columns, aliases, result)| {
-            let (answer, words) = reference::read_header(&envelope, fields, columns, aliases);
+            let (answer, words) = reference::read_header(envelope, fields, columns, aliases);
             assert_eq!(answer, 0);
             *result = words;
         })],
-        8 * (512 * 15 + 1_024 * 4 + 256 * 2),
+        8 * (counts[0] * 15 + counts[1] * 4 + counts[2] * 2) as usize,
     );
-    assert_eq!(tables.3[4..], [512, 1_024, 256]);
+    (times, counts)
+}
+
+fn headers(random: &mut Random) {
+    let (times, counts) = header_times(&smallest_header());
+    assert_eq!(counts, [0, 0, 0]);
+    line("read header, smallest", per_call(times.ours), &times, false);
+    let envelope = small_header(random);
+    let (times, _) = header_times(&envelope);
+    let name = format!("read header, {} B", envelope.len());
+    line(&name, per_call(times.ours), &times, true);
+    let envelope = largest_header(random);
+    let (times, counts) = header_times(&envelope);
+    assert_eq!(counts, [512, 1_024, 256]);
     line(
         "read header, largest",
         gigabytes(envelope.len(), times.ours),
