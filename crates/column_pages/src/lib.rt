@@ -20,7 +20,7 @@ ghost use Rattle.column_pages.specs.Answers.{bitsIn, columnItems, sumsOf
 // have, zeros where they are refused.
 pub struct Sums {
     pub pages: NumberStep,
-    pub elements: [u64; 1024],
+    pub elements: [u64; rows::MOST_COLUMNS],
 }
 
 // What is left of columns that are refused.
@@ -29,7 +29,7 @@ fn no_sums(f: Fault) -> Sums
 {
     Sums {
         pages: NumberStep::Refused(f),
-        elements: [0u64; 1024],
+        elements: [0u64; rows::MOST_COLUMNS],
     }
 }
 
@@ -46,7 +46,7 @@ fn scan_columns(
     ensures { λ r. ⌜ r ≡ sumsOf (columnItems (now (s .entry)) strict list head (now (columns .entry)) file) ⌝ }
 {
     let count = head.count;
-    let mut elements = [0u64; 1024];
+    let mut elements = [0u64; rows::MOST_COLUMNS];
     let mut total: usize = 0;
     let mut i = 0;
     let mut at = head.start;

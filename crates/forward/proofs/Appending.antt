@@ -20,7 +20,7 @@ use Rattle.parents.specs.Parents.{allReach}
 use Rattle.header.specs.Tables.{headerOf, roomFor}
 use Rattle.parents.specs.Dark.{dark}
 use Rattle.rows.proofs.TableLaws.{flat-is, flat-length, flat-join}
-use Rattle.rows.specs.Words.{columnWidth, aliasWidth, fieldWidth, columnWords, aliasWords}
+use Rattle.rows.specs.Words.{columnWidth, aliasWidth, fieldWidth, columnWords, aliasWords, mostFields, mostColumns}
 use Rattle.rows.specs.declared.FieldHead.{FieldHead}
 use Rattle.rows.specs.declared.ColumnRow.{ColumnRow}
 use Rattle.rows.specs.declared.AliasRow.{AliasRow}
@@ -126,7 +126,7 @@ with-rows c ns ks =
 
 appended-valid : (c : PayloadContent) (ns : List FieldContent) (ks : List ColumnRow) → payloadShape .Valid c
     → Each (fieldShape (length (c .tables .fields) + length ns) .Valid) ns → Each (columnShape (length (c .tables .fields) + length ns) .Valid) ks
-    → length (c .tables .fields) + length ns ≤ 512 → length (c .tables .columns) + length ks ≤ 1024 → payloadShape .Valid (with-rows c ns ks)
+    → length (c .tables .fields) + length ns ≤ mostFields → length (c .tables .columns) + length ks ≤ mostColumns → payloadShape .Valid (with-rows c ns ks)
 unfolding payloadShape listsShape
 appended-valid c ns ks v vn vk few few′ =
     let fs = c .tables .fields in
@@ -144,7 +144,7 @@ appended-valid c ns ks v vn vk few few′ =
     let fields = each-item (recordShape (fieldShape m)) [] (fs ++ ns) (each-append (fieldShape m .Valid) fs ns (each-weaken (field-valid n m (omega arith)) fs vf) vn) in
     let columns = each-item (recordShape (columnShape m)) [] (cs ++ ks) (each-append (columnShape m .Valid) cs ks (each-weaken (column-valid n m (omega arith)) cs vc) vk) in
     let aliases = each-item (recordShape (aliasShape (flagsIn fs ++ flagsIn ns) (length (cs ++ ks)))) [] as′ (each-weaken (alias-valid (flagsIn fs) (flagsIn ns) (length cs) (length (cs ++ ks)) (omega arith)) as′ va) in
-    (v .0, ((rw long (omega arith, passed (leb m 512) 10 (le-leb m 512 few), fields), (rw (long, long′) (omega arith, passed (leb (length cs + length ks) 1024) 10 (le-leb (length cs + length ks) 1024 few′), columns), (rw flags (lists .1 .1 .0 .0, lists .1 .1 .0 .1, aliases), tt))), tt))
+    (v .0, ((rw long (omega arith, passed (leb m mostFields) 10 (le-leb m mostFields few), fields), (rw (long, long′) (omega arith, passed (leb (length cs + length ks) mostColumns) 10 (le-leb (length cs + length ks) mostColumns few′), columns), (rw flags (lists .1 .1 .0 .0, lists .1 .1 .0 .1, aliases), tt))), tt))
 
 -- parents
 

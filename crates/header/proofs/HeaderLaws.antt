@@ -1,10 +1,10 @@
 -- What a header that was read has: how its envelope and payload were read, and the bounds of its numbers.
-use Prim.Native.Nat.{ℕ, zero, suc, _+_, _-_, _≤_, _<_}
+use Prim.Native.Nat.{ℕ, zero, suc, _+_, _-_, _/_, _≤_, _<_}
 use mathlib.Core.Path.{_≡_, refl, sym, ap, subst, _∙_}
 use mathlib.Core.Bool.{Bool, true, false}
 use mathlib.Core.List.{List, [], _∷_}
 use native.Mathlib.Omega.{arith}
-use borrow.Author.Tests.{leb-true}
+use borrow.Author.Tests.{leb-true, le-leb}
 use lib.Dec.{leb, eqb}
 use lib.ListN.{length, getD, take}
 use Rattle.numbers.specs.Choice.{pick, both}
@@ -19,15 +19,15 @@ use Rattle.frames.proofs.Laws.{list-room, closed-found}
 use Rattle.frames.proofs.Loops.{list-most}
 use Rattle.numbers.specs.Lists.{Each}
 use Rattle.envelope.specs.Envelope.{ceiling, checksumOf, versionsOf, whole, opened, enclosed, versioned, envelope, Versions}
-use Rattle.rows.specs.Words.{mostFields, mostColumns}
+use Rattle.rows.specs.Words.{mostFields, mostColumns, mostAliases, fieldWidth, columnWidth, aliasWidth, fullFields, fullColumns, fullAliases}
 use Rattle.rows.specs.declared.FieldRow.{FieldRow}
 use Rattle.rows.specs.declared.ColumnRow.{ColumnRow}
-use Rattle.records.specs.Records.{field, column, texts}
+use Rattle.records.specs.Records.{field, column, alias, texts}
 use Rattle.records.specs.declared.HeaderTexts.{HeaderTexts}
 use Rattle.records.proofs.Bounds.{Bytes, take-bytes}
 use Rattle.parents.specs.Parents.{Inside, allReach}
-use Rattle.header.specs.Header.{Header, lists, payload}
-use Rattle.header.specs.Tables.{endlessFault, chained, headerOf, parentsOf}
+use Rattle.header.specs.Header.{Header, flagsOf, lists, payload}
+use Rattle.header.specs.Tables.{endlessFault, chained, headerOf, parentsOf, roomFor}
 use Rattle.header.proofs.ListLaws.{Parts, lists-parts}
 use Rattle.header.proofs.PayloadLaws.{texts-refused, payload-lists}
 use Rattle.header.proofs.BoundLaws.{parents-below, columns-below, bits-below, each-map}
@@ -157,6 +157,20 @@ module _ (e : List ℕ) {h : Header} {p : ℕ} (w : headerOf e ≡ found h p) wh
   columns-few =
       let r = header-read e w in
       list-most (r .versions .strict) mostColumns (λ _ _. recordOf (r .versions .strict) (column (length (h .lists .fields)))) (take (r .stop) e) (h .lists .columnsAt) (r .parts .columnsAre)
+
+  aliases-few : length (h .lists .aliases) ≤ mostAliases
+  aliases-few =
+      let r = header-read e w in
+      list-most (r .versions .strict) mostAliases (λ _ _. recordOf (r .versions .strict) (alias (flagsOf (h .lists .fields)) (length (h .lists .columns)))) (take (r .stop) e) (h .lists .aliasesAt) (r .parts .aliasesAre)
+
+  -- full tables have room for its rows
+  pub full-room : roomFor fullFields fullColumns fullAliases (h .lists) ≡ true
+  full-room =
+      rw (
+        le-leb (length (h .lists .fields)) (fullFields / fieldWidth) fields-few,
+        le-leb (length (h .lists .columns)) (fullColumns / columnWidth) columns-few,
+        le-leb (length (h .lists .aliases)) (fullAliases / aliasWidth) aliases-few,
+      )
 
   pub parents-inside : Inside (parentsOf (h .lists .fields)) (length (h .lists .fields))
   parents-inside = payload-inside e (header-payload e w)

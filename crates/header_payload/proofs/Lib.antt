@@ -1,4 +1,2 @@
-pub mod LaidLaws
-pub mod KeptLaws
 pub mod ListLaws
 pub mod PayloadLaws

@@ -1,35 +1,25 @@
 -- The parts of a payload, each after the step before it, and what they read together.
-use Prim.Native.Nat.{ℕ, _≤_, zero-le}
+use Prim.Native.Nat.{ℕ}
 use mathlib.Core.Path.{_≡_, refl, sym, ap, _∙_}
 use mathlib.Core.Bool.{Bool}
 use mathlib.Core.List.{List}
 use lib.ListN.{length, take, length-map}
 use lib.Seq.{take-at}
 use Rattle.wire.specs.Reading.{Step, found, refused, counted, mapped}
-use Rattle.frames.specs.Frames.{recordOf, closed}
+use Rattle.frames.specs.Frames.{closed}
 use Rattle.frames.proofs.Laws.{mapped-closed}
-use Rattle.frames.proofs.Loops.{list-most}
 use Rattle.envelope.specs.Envelope.{whole}
-use Rattle.rows.specs.Words.{mostFields}
 use Rattle.rows.specs.declared.FieldRow.{FieldRow}
 use Rattle.rows.specs.declared.ColumnRow.{ColumnRow}
 use Rattle.rows.specs.declared.AliasRow.{AliasRow}
-use Rattle.records.specs.Records.{field, texts}
+use Rattle.records.specs.Records.{texts}
 use Rattle.records.specs.declared.HeaderTexts.{HeaderTexts}
 use Rattle.header.specs.Header.{payload, fieldList, columnList, aliasList, flagsOf}
 use Rattle.header.proofs.ListLaws.{fields-refused, columns-refused, aliases-refused, lists-found}
 use Rattle.header.proofs.PayloadLaws.{texts-refused, lists-refused, payload-found}
-use Rattle.header_payload.specs.Answers.{fieldsNext, columnsNext, aliasesNext, numberIn, gathered, scanOf}
-use Rattle.header_payload.specs.Kept.{Kept, layFlags}
-
--- no more fields than may be
-pub few-fields : (strict : Bool) (s : List ℕ) (tx : Step HeaderTexts) → numberIn (counted (fieldsNext strict s tx)) ≤ mostFields
-few-fields strict s (found t la) = by (fieldList strict s la) refl
-  where
-    by : (y : Step (List FieldRow)) → fieldList strict s la ≡ y → numberIn (counted y) ≤ mostFields
-    by (found rows p) e = list-most strict mostFields (λ n _. recordOf strict (field n)) s la e
-    by (refused g) e = zero-le
-few-fields strict s (refused g) = zero-le
+use Rattle.header_lists.specs.Next.{fieldsNext, columnsNext, aliasesNext}
+use Rattle.header_payload.specs.Answers.{gathered, scanOf}
+use Rattle.header_lists.specs.Kept.{Kept, layFlags}
 
 -- the flags of the fields that were found
 pub some-flags : (fields : List FieldRow) (f₀ : List ℕ) {f : List ℕ} → f ≡ layFlags fields f₀ → take (length fields) f ≡ flagsOf fields

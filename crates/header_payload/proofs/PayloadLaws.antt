@@ -15,8 +15,9 @@ use Rattle.records.specs.declared.HeaderTexts.{HeaderTexts}
 use Rattle.header.specs.Header.{Header, payload, aliasList}
 use Rattle.header.proofs.ListLaws.{lists-parts}
 use Rattle.header.proofs.PayloadLaws.{texts-refused, payload-lists}
-use Rattle.header_payload.specs.Answers.{fieldsNext, columnsNext, aliasesNext}
-use Rattle.header_payload.specs.Kept.{Kept, layParents, layFlags, layFields, layColumns, layAliases, kept, Settled}
+use Rattle.header_lists.specs.Next.{fieldsNext, columnsNext, aliasesNext}
+use Rattle.header_lists.specs.Kept.{Kept, layParents, layFlags, layFields, layColumns, layAliases}
+use Rattle.header_payload.specs.Settled.{kept, Settled}
 use Rattle.header_payload.proofs.ListLaws.{some-flags}
 
 module _ (strict : Bool) (s : List ℕ) {p₀ p f₀ f r₀ r c₀ c a₀ a : List ℕ} where

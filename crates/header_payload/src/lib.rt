@@ -1,6 +1,4 @@
 // The payload of a header, read once: the verdict on it, and the rows of its lists in tables of the caller's.
-mod lists;
-
 use field_records::TextsStep;
 use records::HeaderTexts;
 use wire::Fault;
@@ -16,7 +14,7 @@ ghost use Rattle.frames.specs.Frames.{closed};
 ghost use Rattle.envelope.specs.Envelope.{whole};
 ghost use Rattle.header.specs.Header.{payload};
 ghost use Rattle.header_payload.specs.Answers.{scanStep, scanOf, gathered};
-ghost use Rattle.header_payload.specs.Kept.{Settled};
+ghost use Rattle.header_payload.specs.Settled.{Settled};
 
 // Where the list of fields stands, and how many items each list has.
 pub struct HeaderLists {
@@ -41,8 +39,8 @@ pub enum ScanStep {
 pub fn scan_payload(
     s: &[u8],
     strict: bool,
-    parents: &mut [usize; 512],
-    flags: &mut [u64; 512],
+    parents: &mut [u16; rows::MOST_FIELDS],
+    flags: &mut [u64; rows::MOST_FIELDS],
     fields: &mut [u64],
     columns: &mut [u64],
     aliases: &mut [u64],
@@ -51,9 +49,9 @@ pub fn scan_payload(
     ensures { λ r. ⌜ Settled (whole strict (payload strict) (now (s .entry)) 4) (now (parents .entry)) (now (parents .exit)) (now (flags .entry)) (now (flags .exit)) (now (fields .entry)) (now (fields .exit)) (now (columns .entry)) (now (columns .exit)) (now (aliases .entry)) (now (aliases .exit)) ⌝ }
 {
     let texts = field_records::texts_at(s, 4);
-    let n = lists::scan_field_list(s, strict, texts, parents, flags, fields);
-    let m = lists::scan_column_list(s, strict, n, columns);
-    let l = lists::scan_alias_list(s, strict, n, flags, m, aliases);
+    let n = header_lists::scan_field_list(s, strict, texts, parents, flags, fields);
+    let m = header_lists::scan_column_list(s, strict, n, columns);
+    let l = header_lists::scan_alias_list(s, strict, n, flags, m, aliases);
     match gather(strict, s.len(), texts, n, m, l) {
         ScanStep::Found(scan, next) => ScanStep::Found(scan, next),
         ScanStep::Refused(f) => {
@@ -80,8 +78,8 @@ fn gather(
                 PlaceStep::Found(next) => {
                     let lists = HeaderLists {
                         fields_at,
-                        fields: lists::number_in(fields),
-                        columns: lists::number_in(columns),
+                        fields: header_lists::number_in(fields),
+                        columns: header_lists::number_in(columns),
                         aliases: l as usize,
                     };
                     ScanStep::Found(HeaderScan { texts, lists }, next)
@@ -96,8 +94,8 @@ fn gather(
 
 // All zero.
 pub fn clear(
-    parents: &mut [usize; 512],
-    flags: &mut [u64; 512],
+    parents: &mut [u16; rows::MOST_FIELDS],
+    flags: &mut [u64; rows::MOST_FIELDS],
     fields: &mut [u64],
     columns: &mut [u64],
     aliases: &mut [u64],
@@ -108,8 +106,8 @@ pub fn clear(
     ensures { λ _. ⌜ now (columns .exit) ≡ replicate (length (now (columns .entry))) 0 ⌝ }
     ensures { λ _. ⌜ now (aliases .exit) ≡ replicate (length (now (aliases .entry))) 0 ⌝ }
 {
-    *parents = [0usize; 512];
-    *flags = [0u64; 512];
+    *parents = [0u16; rows::MOST_FIELDS];
+    *flags = [0u64; rows::MOST_FIELDS];
     clear_table(fields);
     clear_table(columns);
     clear_table(aliases);

@@ -4,8 +4,8 @@ use mathlib.Core.Path.{_≡_, refl, sym, ap, subst, _∙_}
 use mathlib.Core.Bool.{true, false}
 use mathlib.Core.List.{List}
 use native.Mathlib.Omega.{arith}
-use lib.ListN.{length, getD, take, replicate, length-map}
-use lib.Seq.{take-at, getD-take}
+use lib.ListN.{length, take, replicate, length-map}
+use lib.Seq.{take-at}
 use Rattle.numbers.specs.Rows.{flat, flatBy, over}
 use Rattle.wire.specs.declared.Fault.{Fault}
 use Rattle.wire.specs.Reading.{Step, found, refused, mapped}
@@ -17,7 +17,7 @@ use Rattle.rows.proofs.RowLaws.{columns-back, fields-back}
 use Rattle.rows.proofs.TableLaws.{flat-same, flat-is}
 use Rattle.parents.specs.Parents.{Inside}
 use Rattle.parents.specs.Dark.{dark, darkMark}
-use Rattle.parents.proofs.InsideLaws.{inside-true}
+use Rattle.parents.proofs.InsideLaws.{inside-front}
 use Rattle.parents.proofs.DarkLaws.{Owned, hanging-all}
 use Rattle.header.specs.Header.{Header}
 use Rattle.header.specs.Tables.{parentsOf, headerOf, fitting, answer, written, outcomeOf, textsOf, fieldTable, columnTable, aliasTable, Answered}
@@ -72,12 +72,10 @@ module _ (e : List ℕ) {scan : HeaderScan} {q : ℕ} (w : found scan q ≡ mapp
   few : scan .lists .fields ≤ mostFields
   few = let n = fields-count in let b = fields-few e is-found in omega arith
 
-  inside : Inside p (scan .lists .fields)
+  inside : Inside (parentsOf (m .value .lists .fields)) (scan .lists .fields)
   inside i h =
       let n = fields-count in
       let b = parents-inside e is-found i (omega arith) in
-      let g = getD-take (scan .lists .fields) p i 0 h in
-      let w : getD (take (scan .lists .fields) p) i 0 ≡ getD (parentsOf (m .value .lists .fields)) i 0 = ap (λ (l : List ℕ). getD l i 0) some-parents in
       omega arith
 
   columns-back-are : columnsIn c (scan .lists .columns) ≡ m .value .lists .columns
@@ -89,7 +87,7 @@ module _ (e : List ℕ) {scan : HeaderScan} {q : ℕ} (w : found scan q ≡ mapp
   unfolding darkMark
   mark-is i =
       rw (
-        inside-true p (scan .lists .fields) few inside,
+        inside-front p (scan .lists .fields) (parentsOf (m .value .lists .fields)) few some-parents (length-map (m .value .lists .fields) (λ (r : FieldRow). r .head .parent .0) ∙ sym fields-count) inside,
         some-parents,
         columns-back-are,
         hanging-all (scan .lists .fields) (m .value .lists .columns)

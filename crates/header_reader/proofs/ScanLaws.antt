@@ -1,30 +1,23 @@
 -- What a scan leaves in arrays that have room for all rows.
 use Prim.Native.Nat.{ℕ, _*_, _/_, _≤_}
 use mathlib.Core.Path.{_≡_, refl, sym, ap, _∙_}
-use mathlib.Core.Bool.{Bool, true, false}
+use mathlib.Core.Bool.{true}
 use mathlib.Core.List.{List}
 use native.Mathlib.Omega.{arith}
-use borrow.Author.Tests.{leb-true, le-leb}
+use borrow.Author.Tests.{leb-true}
 use lib.Dec.{leb}
-use lib.ListN.{length, take, replicate, length-replicate}
-use Rattle.numbers.specs.Choice.{both}
+use lib.ListN.{length, replicate, length-replicate}
+use Rattle.numbers.proofs.Choice.{both-true}
 use Rattle.numbers.specs.Rows.{flat, over}
 use Rattle.wire.specs.Reading.{Step, found, refused, mapped}
-use Rattle.rows.specs.Words.{mostFields, mostColumns, mostAliases, fieldWidth, columnWidth, aliasWidth, fieldWords, columnWords, aliasWords}
-use Rattle.frames.specs.Frames.{recordOf}
-use Rattle.frames.proofs.Loops.{list-most}
-use Rattle.records.specs.Records.{alias}
-use Rattle.header.specs.Header.{Header, flagsOf}
+use Rattle.rows.specs.Words.{mostFields, fullFields, fullColumns, fullAliases, fieldWidth, columnWidth, aliasWidth, fieldWords, columnWords, aliasWords}
+use Rattle.header.specs.Header.{Header}
 use Rattle.header.specs.Tables.{headerOf, fitting, columnTable, aliasTable}
-use Rattle.header.proofs.HeaderLaws.{header-read, fields-few, columns-few}
+use Rattle.header.proofs.HeaderLaws.{full-room}
 use Rattle.header_payload.specs.Answers.{scanOf}
-use Rattle.header_payload.specs.Kept.{kept, Settled}
-use Rattle.header_payload.proofs.LaidLaws.{laid-over}
+use Rattle.header_payload.specs.Settled.{kept, Settled}
+use Rattle.header_lists.proofs.LaidLaws.{laid-over}
 use Rattle.header_reader.specs.Fits.{Scanned, rowsThere}
-
-both-true : (x y : Bool) → both x y ≡ true → (x ≡ true) × (y ≡ true)
-both-true true y e = (refl, e)
-both-true false y e = absurd (omega (arith, leb-true 1 0 e))
 
 -- tables of f, c and a words that have room for so many rows
 pub fitting-true : (f c a fields columns aliases : ℕ) → fitting f c a fields columns aliases ≡ true → (fieldWidth * fields ≤ f) × (columnWidth * columns ≤ c) × (aliasWidth * aliases ≤ a)
@@ -36,23 +29,12 @@ fitting-true f c a fields columns aliases e =
     let l = leb-true aliases (a / aliasWidth) (z .1) in
     (omega arith, omega arith, omega arith)
 
-most-fit : (fields columns aliases : ℕ) → fields ≤ mostFields → columns ≤ mostColumns → aliases ≤ mostAliases → fitting 7680 4096 512 fields columns aliases ≡ true
-most-fit fields columns aliases i j l =
-    ap (λ (b : Bool). both b (both (leb columns 1024) (leb aliases 256))) (le-leb fields 512 i) ∙ ap (λ (b : Bool). both true (both b (leb aliases 256))) (le-leb columns 1024 j)
-    ∙ ap (λ (b : Bool). both true (both true b)) (le-leb aliases 256 l)
-
-module _ (e : List ℕ) {h : Header} {q : ℕ} (w : headerOf e ≡ found h q) where
-  aliases-few : length (h .lists .aliases) ≤ mostAliases
-  aliases-few =
-      let r = header-read e w in
-      list-most (r .versions .strict) mostAliases (λ _ _. recordOf (r .versions .strict) (alias (flagsOf (h .lists .fields)) (length (h .lists .columns)))) (take (r .stop) e) (h .lists .aliasesAt) (r .parts .aliasesAre)
-
 -- the largest arrays have room for the rows of every header
-pub all-there : (e : List ℕ) → rowsThere 7680 4096 512 (mapped scanOf (headerOf e)) ≡ true
+pub all-there : (e : List ℕ) → rowsThere fullFields fullColumns fullAliases (mapped scanOf (headerOf e)) ≡ true
 all-there e = by (headerOf e) refl
   where
-    by : (x : Step Header) → headerOf e ≡ x → rowsThere 7680 4096 512 (mapped scanOf x) ≡ true
-    by (found h q) w = most-fit (length (h .lists .fields)) (length (h .lists .columns)) (length (h .lists .aliases)) (fields-few e w) (columns-few e w) (aliases-few e w)
+    by : (x : Step Header) → headerOf e ≡ x → rowsThere fullFields fullColumns fullAliases (mapped scanOf x) ≡ true
+    by (found h q) w = full-room e w
     by (refused g) w = refl
 
 -- arrays of n, m and l words that had room

@@ -20,6 +20,17 @@ pub record Fits (fields columns aliases columnWords aliasWords f c a : ℕ) : Ty
   pub columnsFit : columnWidth * columns ≤ c
   pub aliasesFit : aliasWidth * aliases ≤ a
 
+-- the words of the arrays for a small header
+
+abbrev pub smallFields : ℕ
+smallFields = fieldWidth * 28
+
+abbrev pub smallColumns : ℕ
+smallColumns = columnWidth * 40
+
+abbrev pub smallAliases : ℕ
+smallAliases = aliasWidth * 16
+
 -- arrays of f, c and a words have room for the rows that a scan found
 abbrev pub rowsThere : ℕ → ℕ → ℕ → Step HeaderScan → Bool
 rowsThere f c a (found s p) = fitting f c a (s .lists .fields) (s .lists .columns) (s .lists .aliases)

@@ -30,14 +30,14 @@ pub fn has_room(lists: HeaderLists, fields: usize, columns: usize, aliases: usiz
 }
 
 // Writes the first n rows of fields into `table`; `marks` has the dark mark of each.
-fn fill_fields(table: &mut [u64], field_rows: &[u64], n: usize, marks: &[u64])
+fn fill_fields(table: &mut [u64], field_rows: &[u64], n: usize, marks: &[u8])
     requires { ⌜ (fieldWidth * n ≤ length (now table)) × (n ≤ length (now marks)) ⌝ }
     ensures { λ _. ⌜ now (table .exit) ≡ over (flatBy (λ i. fieldWords (getD (now (marks .entry)) i 0)) 0 (firstRows fieldRow (now («field_rows» .entry)) n)) (now (table .entry)) ⌝ }
 {
     let mut i = 0;
     while i < n {
         let row = field_rows::field_row(field_rows, FieldNumber(i as u64));
-        field_rows::put_field(table, FieldNumber(i as u64), row, marks[i]);
+        field_rows::put_field(table, FieldNumber(i as u64), row, marks[i] as u64);
         i += 1;
     }
 }
@@ -45,7 +45,7 @@ fn fill_fields(table: &mut [u64], field_rows: &[u64], n: usize, marks: &[u64])
 // Writes the rows of the lists into the lent tables, those of fields with their dark marks.
 pub fn fill_tables(
     lists: HeaderLists,
-    parents: [usize; 512],
+    parents: &[u16; rows::MOST_FIELDS],
     field_rows: &[u64],
     column_rows: &[u64],
     alias_rows: &[u64],
@@ -54,7 +54,7 @@ pub fn fill_tables(
     aliases: &mut [u64],
 )
     requires { ⌜ Fits (lists .fields) (lists .columns) (lists .aliases) (length (now «column_rows»)) (length (now «alias_rows»)) (length (now fields)) (length (now columns)) (length (now aliases)) ⌝ }
-    ensures { λ _. ⌜ now (fields .exit) ≡ over (flatBy (λ i. fieldWords (darkMark parents (lists .fields) (columnsIn (now («column_rows» .entry)) (lists .columns)) i)) 0 (firstRows fieldRow (now («field_rows» .entry)) (lists .fields))) (now (fields .entry)) ⌝ }
+    ensures { λ _. ⌜ now (fields .exit) ≡ over (flatBy (λ i. fieldWords (darkMark (now (parents .entry)) (lists .fields) (columnsIn (now («column_rows» .entry)) (lists .columns)) i)) 0 (firstRows fieldRow (now («field_rows» .entry)) (lists .fields))) (now (fields .entry)) ⌝ }
     ensures { λ _. ⌜ now (columns .exit) ≡ over (take (columnWidth * (lists .columns)) (now («column_rows» .entry))) (now (columns .entry)) ⌝ }
     ensures { λ _. ⌜ now (aliases .exit) ≡ over (take (aliasWidth * (lists .aliases)) (now («alias_rows» .entry))) (now (aliases .entry)) ⌝ }
 {
@@ -80,7 +80,7 @@ pub fn rows_there(step: ScanStep, fields: usize, columns: usize, aliases: usize)
 pub fn answer_scan(
     envelope: &[u8],
     step: ScanStep,
-    parents: [usize; 512],
+    parents: &[u16; rows::MOST_FIELDS],
     field_rows: &[u64],
     column_rows: &[u64],
     alias_rows: &[u64],
@@ -89,7 +89,7 @@ pub fn answer_scan(
     aliases: &mut [u64],
 ) -> HeaderAnswer
     requires { ⌜ scanStep step ≡ mapped scanOf (headerOf (now envelope)) ⌝ }
-    requires { ⌜ Scanned (headerOf (now envelope)) parents (now «field_rows») (now «column_rows») (now «alias_rows») ⌝ }
+    requires { ⌜ Scanned (headerOf (now envelope)) (now parents) (now «field_rows») (now «column_rows») (now «alias_rows») ⌝ }
     ensures { λ r. ⌜ Answered (headerOf (now (envelope .entry))) (now (fields .entry)) (now (fields .exit)) (now (columns .entry)) (now (columns .exit)) (now (aliases .entry)) (now (aliases .exit)) r ⌝ }
 {
     match step {

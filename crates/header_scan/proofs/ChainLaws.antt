@@ -4,8 +4,8 @@ use mathlib.Core.Path.{_≡_, sym, ap, subst, _∙_}
 use mathlib.Core.Bool.{Bool}
 use mathlib.Core.List.{List}
 use native.Mathlib.Omega.{arith}
-use lib.ListN.{length, getD, take, length-map}
-use lib.Seq.{take-at, getD-take}
+use lib.ListN.{length, take, length-map}
+use lib.Seq.{take-at}
 use Rattle.numbers.specs.Rows.{over}
 use Rattle.wire.specs.declared.Fault.{Fault}
 use Rattle.wire.specs.Reading.{Step, found, refused, mapped}
@@ -26,7 +26,7 @@ use Rattle.header.proofs.ListLaws.{Parts, lists-parts}
 use Rattle.header.proofs.BoundLaws.{parents-below, each-map}
 use Rattle.header.proofs.HeaderLaws.{payload-parts, list-room-of, chained-refused}
 use Rattle.header_payload.specs.Answers.{scanOf}
-use Rattle.header_payload.specs.Kept.{kept, Settled}
+use Rattle.header_payload.specs.Settled.{kept, Settled}
 use Rattle.header_payload.specs.declared.HeaderLists.{HeaderLists}
 use Rattle.header_payload.specs.declared.HeaderScan.{HeaderScan}
 use Rattle.header_scan.proofs.RowLaws.{rows-end, rows-endless, rows-lowest}
@@ -72,12 +72,10 @@ module _ (strict : Bool) (s : List ℕ) {p₀ p f₀ f r₀ r c₀ c a₀ a : Li
     few : scan .lists .fields ≤ mostFields
     few = let l = list-most strict mostFields (λ n _. recordOf strict (field n)) s (scan .lists .«fields_at») (parts .fieldsAre) in let n = count in omega arith
 
-    inside : Inside p (scan .lists .fields)
+    inside : Inside (parentsOf (m .value .lists .fields)) (scan .lists .fields)
     inside i h =
         let n = count in
         let b = each-map (λ (r : FieldRow). r .head .parent .0) (length (m .value .lists .fields)) (m .value .lists .fields) (parents-below strict s (scan .lists .«fields_at») (parts .fieldsAre)) i (omega arith) in
-        let g = getD-take (scan .lists .fields) p i 0 h in
-        let w : getD (take (scan .lists .fields) p) i 0 ≡ getD (parentsOf (m .value .lists .fields)) i 0 = ap (λ (l : List ℕ). getD l i 0) some-parents in
         omega arith
 
     -- the head of the list of fields lies in the bytes

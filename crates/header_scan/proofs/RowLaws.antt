@@ -14,13 +14,13 @@ use Rattle.rows.specs.Words.{mostFields}
 use Rattle.rows.specs.declared.FieldNumber.{FieldNumber}
 use Rattle.numbers.proofs.Choice.{is-false}
 use Rattle.parents.proofs.EndlessLaws.{all-reach-iff}
-use Rattle.parents.proofs.InsideLaws.{inside-true}
+use Rattle.parents.proofs.InsideLaws.{inside-front}
 
 -- refusal 15 by the answer for an array that starts with the rows' parents
-module _ (rows : List FieldRow) (parents : List ℕ) (n : ℕ) (count : length rows ≡ n) (same : take n parents ≡ parentsOf rows) (few : n ≤ mostFields) (inside : Inside parents n) where
+module _ (rows : List FieldRow) (parents : List ℕ) (n : ℕ) (count : length rows ≡ n) (same : take n parents ≡ parentsOf rows) (few : n ≤ mostFields) (inside : Inside (parentsOf rows) n) where
   chains-are : chainsOf parents n ≡ endless (take n parents) n n
   unfolding chainsOf
-  chains-are = rw (inside-true parents n few inside)
+  chains-are = rw (inside-front parents n (parentsOf rows) few same (length-map rows (λ (f : FieldRow). f .head .parent .0) ∙ count) inside)
 
   rows-iff : (allReach (parentsOf rows) (length rows) ≡ true) ↔ (endless (take n parents) n n ≡ AllEnd)
   rows-iff =

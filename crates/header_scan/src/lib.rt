@@ -10,7 +10,7 @@ ghost use Rattle.envelope.specs.Envelope.{whole};
 ghost use Rattle.header.specs.Header.{payload};
 ghost use Rattle.header.specs.Tables.{chained, headerOf};
 ghost use Rattle.header_payload.specs.Answers.{scanStep, scanOf};
-ghost use Rattle.header_payload.specs.Kept.{Settled};
+ghost use Rattle.header_payload.specs.Settled.{Settled};
 
 // The highest minimum version that is read.
 const SUPPORTED: u64 = 1;
@@ -19,8 +19,8 @@ const SUPPORTED: u64 = 1;
 // rows of fields (no dark mark yet), columns and aliases, as far as each has room; where it is refused they are all zero.
 pub fn scan_header(
     envelope: &[u8],
-    parents: &mut [usize; 512],
-    flags: &mut [u64; 512],
+    parents: &mut [u16; rows::MOST_FIELDS],
+    flags: &mut [u64; rows::MOST_FIELDS],
     fields: &mut [u64],
     columns: &mut [u64],
     aliases: &mut [u64],
@@ -49,8 +49,8 @@ pub fn scan_header(
 fn scan_chained(
     s: &[u8],
     strict: bool,
-    parents: &mut [usize; 512],
-    flags: &mut [u64; 512],
+    parents: &mut [u16; rows::MOST_FIELDS],
+    flags: &mut [u64; rows::MOST_FIELDS],
     fields: &mut [u64],
     columns: &mut [u64],
     aliases: &mut [u64],

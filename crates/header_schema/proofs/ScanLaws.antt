@@ -13,9 +13,9 @@ use Rattle.header.specs.Header.{Header, flagsOf}
 use Rattle.header.specs.Tables.{headerOf, parentsOf, columnTable}
 use Rattle.header.proofs.HeaderLaws.{header-read, opened-end, columns-few}
 use Rattle.header_payload.specs.Answers.{scanOf}
-use Rattle.header_payload.specs.Kept.{kept, Settled}
+use Rattle.header_payload.specs.Settled.{kept, Settled}
 use Rattle.header_payload.specs.declared.HeaderScan.{HeaderScan}
-use Rattle.header_payload.proofs.LaidLaws.{laid-over}
+use Rattle.header_lists.proofs.LaidLaws.{laid-over}
 use Rattle.header_schema.specs.Schema.{schemaOf, noSchema}
 use Rattle.header_schema.specs.declared.Schema.{Schema}
 use Rattle.header_schema.specs.declared.HeaderVerdict.the-variants.{Accepted as Taken, Refused as Turned}

@@ -18,19 +18,19 @@ pub struct Schema {
     pub checksum: u64,
     pub fields: usize,
     pub columns: usize,
-    pub parents: [usize; 512],
-    pub flags: [u64; 512],
-    pub column_rows: [u64; 4096],
+    pub parents: [u16; rows::MOST_FIELDS],
+    pub flags: [u64; rows::MOST_FIELDS],
+    pub column_rows: [u64; rows::FULL_COLUMNS],
 }
 
 // Reads a header with no table lent. No row of a field or of an alias is asked for.
 pub fn read_schema(envelope: &[u8]) -> Schema
     ensures { λ r. ⌜ r ≡ schemaOf (checksumOf (now (envelope .entry))) (headerOf (now (envelope .entry))) ⌝ }
 {
-    let mut parents = [0usize; 512];
-    let mut flags = [0u64; 512];
+    let mut parents = [0u16; rows::MOST_FIELDS];
+    let mut flags = [0u64; rows::MOST_FIELDS];
     let mut no_fields = [0u64; 0];
-    let mut column_rows = [0u64; 4096];
+    let mut column_rows = [0u64; rows::FULL_COLUMNS];
     let mut no_aliases = [0u64; 0];
     match header_scan::scan_header(
         envelope,

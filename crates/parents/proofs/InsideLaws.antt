@@ -1,15 +1,18 @@
 -- The test that every parent is one of the fields. Assumes nothing.
 use Prim.Native.Nat.{ℕ, zero, suc, _+_, _≤_, _<_}
-use mathlib.Core.Path.{_≡_, refl}
+use mathlib.Core.Path.{_≡_, refl, ap}
 use mathlib.Core.Bool.{true, false}
 use mathlib.Core.List.{List}
 use native.Mathlib.Omega.{arith}
 use native.Mathlib.Numerals.{add-one}
 use borrow.Author.Count.{below-more}
 use borrow.Author.Tests.{lt-ltb, ltb-true, le-leb, lt-leb, leb-true}
-use lib.ListN.{getD}
+use lib.ListN.{length, getD, take, length-take}
+use lib.Seq.{getD-take}
 use lib.Dec.{leb, ltb}
+use Rattle.rows.specs.Words.{mostFields}
 use Rattle.parents.specs.Parents.{insideUpTo, inside, Inside}
+use Rattle.numbers.specs.Choice.{both}
 use Rattle.numbers.proofs.Choice.{is-false, both-true}
 
 module _ (parents : List ℕ) (n : ℕ) where
@@ -29,24 +32,38 @@ module _ (parents : List ℕ) (n : ℕ) where
   up-to-all zero h = refl
   up-to-all (suc k) h = rw (up-to-all k (λ f l. h f (omega arith)), lt-ltb (getD parents k 0) n (h k (omega arith)))
 
-  pub inside-few : inside parents n ≡ true → n ≤ 512
+  parts : inside parents n ≡ true → (leb n mostFields ≡ true) × (leb n (length parents) ≡ true) × (insideUpTo parents n n ≡ true)
   unfolding inside
-  inside-few e = leb-true n 512 (both-true (leb n 512) (insideUpTo parents n n) e .0)
+  parts e =
+      let (few, rest) = both-true (leb n mostFields) (both (leb n (length parents)) (insideUpTo parents n n)) e in
+      let (long, all) = both-true (leb n (length parents)) (insideUpTo parents n n) rest in
+      (few, long, all)
+
+  -- what the test asks for beside the parents themselves
+  pub inside-few : inside parents n ≡ true → (n ≤ mostFields) × (n ≤ length parents)
+  inside-few e = (leb-true n mostFields (parts e .0), leb-true n (length parents) (parts e .1))
 
   pub inside-is : inside parents n ≡ true → Inside parents n
-  unfolding inside
-  inside-is e = up-to-is n (both-true (leb n 512) (insideUpTo parents n n) e .1)
+  inside-is e = up-to-is n (parts e .2)
 
-  pub inside-reached : n ≤ 512 → insideUpTo parents n n ≡ true → inside parents n ≡ true
+  pub inside-reached : n ≤ mostFields → n ≤ length parents → insideUpTo parents n n ≡ true → inside parents n ≡ true
   unfolding inside
-  inside-reached few e = rw (le-leb n 512 few, e)
+  inside-reached few long e = rw (le-leb n mostFields few, le-leb n (length parents) long, e)
 
-  pub inside-true : n ≤ 512 → Inside parents n → inside parents n ≡ true
-  inside-true few h = inside-reached few (up-to-all n h)
+  -- parents that stand in front of a table
+  pub inside-front : (ys : List ℕ) → n ≤ mostFields → take n parents ≡ ys → length ys ≡ n → Inside ys n → inside parents n ≡ true
+  inside-front ys few same count h =
+      let l = length-take n parents in
+      let k = ap length same in
+      inside-reached few (omega arith)
+      (up-to-all n (λ f b. let g = getD-take n parents f 0 b in let w = ap (λ (l : List ℕ). getD l f 0) same in let r = h f b in omega arith))
 
-  pub inside-many : 512 < n → inside parents n ≡ false
+  pub inside-many : mostFields < n → inside parents n ≡ false
   unfolding inside
-  inside-many h = rw (lt-leb n 512 h)
+  inside-many h = rw (lt-leb n mostFields h)
+
+  pub inside-more : length parents < n → inside parents n ≡ false
+  inside-more h = is-false (inside parents n) (λ t. let r = inside-few t .1 in omega arith)
 
   pub inside-not : (f : ℕ) → f < n → n ≤ getD parents f 0 → inside parents n ≡ false
   inside-not f l h = is-false (inside parents n) (λ t. let r = inside-is t f l in omega arith)

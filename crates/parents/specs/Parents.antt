@@ -6,6 +6,7 @@ use mathlib.Core.Path.{_≡_}
 use lib.ListN.{length, getD, take}
 use lib.Dec.{eqb, leb, ltb}
 use Rattle.numbers.specs.Choice.{pick, both}
+use Rattle.rows.specs.Words.{mostFields}
 use Rattle.parents.specs.declared.Chains.{Chains}
 use Rattle.parents.specs.declared.Chains.the-variants.{AllEnd, Endless}
 
@@ -18,9 +19,9 @@ unfoldable pub insideUpTo : List ℕ → ℕ → ℕ → Bool
 insideUpTo parents n zero = true
 insideUpTo parents n (suc k) = both (insideUpTo parents n k) (ltb (getD parents k 0) n)
 
--- there are at most 512 fields, and each has its parent among them
+-- there are at most as many fields as a header may have, at most as many as parents, and each has its parent among them
 unfoldable pub inside : List ℕ → ℕ → Bool
-inside parents n = both (leb n 512) (insideUpTo parents n n)
+inside parents n = both (leb n mostFields) (both (leb n (length parents)) (insideUpTo parents n n))
 
 -- the field reached from f by k moves from a field to its parent
 unfoldable pub ancestor : List ℕ → ℕ → ℕ → ℕ

@@ -5,16 +5,16 @@ use rows::ColumnRow;
 use rows::FieldNumber;
 ghost use mathlib.Core.Path.{_≡_};
 ghost use Prim.Native.Nat.{ℕ, _<_, _≤_};
-ghost use lib.ListN.{getD, take};
-ghost use Rattle.rows.specs.Words.{bit};
+ghost use lib.ListN.{length, getD, take};
+ghost use Rattle.rows.specs.Words.{mostFields, bit};
 ghost use Rattle.rows.specs.Tables.{columnsIn};
 ghost use Rattle.parents.specs.Parents.{Inside};
 ghost use Rattle.parents.specs.Dark.{dark, hanging, unknownOn};
 ghost use Rattle.parents.specs.Marks.{DarkMarks, Darkened};
 
 // Makes a field dark, and every field above it, up to one that is dark already.
-fn darken(parents: &[usize; 512], marks: &mut [u64; 512], n: usize, field: FieldNumber)
-    requires { ⌜ (n ≤ 512) × (field .0 < n) ⌝ }
+fn darken(parents: &[u16], marks: &mut [u8; rows::MOST_FIELDS], n: usize, field: FieldNumber)
+    requires { ⌜ (n ≤ mostFields) × (field .0 < n) × (n ≤ length (now parents)) ⌝ }
     requires { ⌜ Inside (now parents) n ⌝ }
     requires { ⌜ DarkMarks (now parents) (now marks) n ⌝ }
     ensures { λ _. ⌜ Darkened (now (parents .entry)) (now (marks .entry)) (now (marks .exit)) n (field .0) ⌝ }
@@ -43,17 +43,17 @@ fn unknown_on(column: ColumnRow, n: usize) -> bool
 }
 
 // The dark marks of n fields, by the first `count` columns of a table.
-pub fn marks_of(parents: [usize; 512], n: usize, columns: &[u64], count: usize) -> [u64; 512]
-    requires { ⌜ n ≤ 512 ⌝ }
-    requires { ⌜ Inside parents n ⌝ }
-    ensures { λ r. ⌜ ((f : ℕ) → getD r f 0 ≡ bit (dark (take n parents) (hanging n (columnsIn (now (columns .entry)) count)) f)) ⌝ }
+pub fn marks_of(parents: &[u16], n: usize, columns: &[u64], count: usize) -> [u8; rows::MOST_FIELDS]
+    requires { ⌜ (n ≤ mostFields) × (n ≤ length (now parents)) ⌝ }
+    requires { ⌜ Inside (now parents) n ⌝ }
+    ensures { λ r. ⌜ ((f : ℕ) → getD r f 0 ≡ bit (dark (take n (now (parents .entry))) (hanging n (columnsIn (now (columns .entry)) count)) f)) ⌝ }
 {
-    let mut marks = [0u64; 512];
+    let mut marks = [0u8; rows::MOST_FIELDS];
     let mut i = 0;
     while i < count {
         let column = column_rows::column_row(columns, ColumnNumber(i as u64));
         if unknown_on(column, n) {
-            darken(&parents, &mut marks, n, column.field);
+            darken(parents, &mut marks, n, column.field);
         }
         i += 1;
     }

@@ -20,7 +20,7 @@ pub enum Chains {
 
 // Of the first n fields, whose parents are these, the lowest whose chain never ends, if there is one. No chain is followed
 // where a parent is none of the n fields.
-pub fn endless_chain(parents: [usize; 512], n: usize) -> Chains
+pub fn endless_chain(parents: [u16; rows::MOST_FIELDS], n: usize) -> Chains
     ensures { λ r. ⌜ r ≡ chainsOf parents n ⌝ }
 {
     if walk::all_inside(&parents, n) {
@@ -31,11 +31,16 @@ pub fn endless_chain(parents: [usize; 512], n: usize) -> Chains
 
 // The dark marks of n fields, whose parents are these: 1 where one of the first `count` columns of a table is of unknown type and
 // hangs on the field or on one below it, else 0. All 0 where a parent is none of the n fields.
-pub fn dark_marks(parents: [usize; 512], n: usize, columns: &[u64], count: usize) -> [u64; 512]
-    ensures { λ r. ⌜ ((f : ℕ) → getD r f 0 ≡ darkMark parents n (columnsIn (now (columns .entry)) count) f) ⌝ }
+pub fn dark_marks(
+    parents: &[u16],
+    n: usize,
+    columns: &[u64],
+    count: usize,
+) -> [u8; rows::MOST_FIELDS]
+    ensures { λ r. ⌜ ((f : ℕ) → getD r f 0 ≡ darkMark (now (parents .entry)) n (columnsIn (now (columns .entry)) count) f) ⌝ }
 {
-    if walk::all_inside(&parents, n) {
+    if walk::all_inside(parents, n) {
         return dark::marks_of(parents, n, columns, count);
     }
-    [0u64; 512]
+    [0u8; rows::MOST_FIELDS]
 }

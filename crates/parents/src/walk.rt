@@ -4,20 +4,24 @@ use rows::FieldNumber;
 ghost use mathlib.Core.Path.{_≡_};
 ghost use mathlib.Core.Bool.{true};
 ghost use Prim.Native.Nat.{_+_, _<_, _≤_};
-ghost use lib.ListN.{getD, take};
+ghost use lib.ListN.{length, getD, take};
+ghost use Rattle.rows.specs.Words.{mostFields};
 ghost use Rattle.parents.specs.Parents.{inside, Inside, reaches, endless};
 ghost use Rattle.parents.specs.Marks.{Marked};
 
-// There are at most as many fields as the array has room for, and the parent of each is one of them.
-pub fn all_inside(parents: &[usize; 512], n: usize) -> bool
+// There are at most as many fields as a header may have and as there are parents, and the parent of each is one of them.
+pub fn all_inside(parents: &[u16], n: usize) -> bool
     ensures { λ r. ⌜ r ≡ inside (now (parents .entry)) n ⌝ }
 {
-    if 512 < n {
+    if rows::MOST_FIELDS < n {
+        return false;
+    }
+    if parents.len() < n {
         return false;
     }
     let mut f = 0;
     while f < n {
-        if parents[f] < n {
+        if (parents[f] as usize) < n {
             f += 1;
         } else {
             return false;
@@ -26,8 +30,8 @@ pub fn all_inside(parents: &[usize; 512], n: usize) -> bool
     true
 }
 
-pub fn parent_of(parents: &[usize; 512], field: FieldNumber) -> FieldNumber
-    requires { ⌜ field .0 < 512 ⌝ }
+pub fn parent_of(parents: &[u16], field: FieldNumber) -> FieldNumber
+    requires { ⌜ field .0 < length (now parents) ⌝ }
     ensures { λ r. ⌜ r .0 ≡ getD (now (parents .entry)) (field .0) 0 ⌝ }
 {
     let f = field.0 as usize;
@@ -36,14 +40,19 @@ pub fn parent_of(parents: &[usize; 512], field: FieldNumber) -> FieldNumber
 
 // Whether the chain from `start` ends. Each field that is followed is marked with start + 1; a mark of an earlier walk is on a
 // field whose chain ends.
-fn follow(parents: &[usize; 512], marks: &mut [usize; 512], n: usize, start: FieldNumber) -> bool
-    requires { ⌜ (n ≤ 512) × (start .0 < n) ⌝ }
+fn follow(
+    parents: &[u16],
+    marks: &mut [u16; rows::MOST_FIELDS],
+    n: usize,
+    start: FieldNumber,
+) -> bool
+    requires { ⌜ (n ≤ mostFields) × (start .0 < n) × (n ≤ length (now parents)) ⌝ }
     requires { ⌜ Inside (now parents) n ⌝ }
     requires { ⌜ Marked (now parents) (now marks) n (start .0) ⌝ }
     ensures { λ r. ⌜ r ≡ reaches (now (parents .entry)) n (start .0) ⌝ }
     ensures { λ r. ⌜ (r ≡ true → Marked (now (parents .entry)) (now (marks .exit)) n (start .0 + 1)) ⌝ }
 {
-    let stamp = start.0 as usize + 1;
+    let stamp = (start.0 + 1) as u16;
     let mut f = start;
     loop {
         let up = parent_of(parents, f);
@@ -64,12 +73,12 @@ fn follow(parents: &[usize; 512], marks: &mut [usize; 512], n: usize, start: Fie
 }
 
 // Of the first n fields, the lowest whose chain never ends, if there is one. No field is followed twice.
-pub fn lowest_endless(parents: [usize; 512], n: usize) -> Chains
-    requires { ⌜ n ≤ 512 ⌝ }
+pub fn lowest_endless(parents: [u16; rows::MOST_FIELDS], n: usize) -> Chains
+    requires { ⌜ n ≤ mostFields ⌝ }
     requires { ⌜ Inside parents n ⌝ }
     ensures { λ r. ⌜ r ≡ endless (take n parents) n n ⌝ }
 {
-    let mut marks = [0usize; 512];
+    let mut marks = [0u16; rows::MOST_FIELDS];
     let mut f = 0;
     while f < n {
         let field = FieldNumber(f as u64);

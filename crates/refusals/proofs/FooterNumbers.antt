@@ -9,6 +9,7 @@ use Rattle.frames.specs.Frames.{atMost, recordOf}
 use Rattle.footer.specs.Footer.{names, noItems, empty, payload, footerOf}
 use Rattle.links.specs.Links.{link}
 use Rattle.clusters.specs.Clusters.{startsAt, entryCount, cluster, entriesOf}
+use Rattle.rows.specs.Words.{mostClusters, mostLinks}
 use Rattle.refusals.specs.Refusals.{among, inFooter, FooterNumbers}
 use Rattle.refusals.proofs.Naming.{Naming, unless-judged, last-judged, naming-give, naming-bind, naming-number, naming-tested, naming-located, naming-features, naming-record, naming-list, judging-most, named-envelope}
 
@@ -39,8 +40,8 @@ naming-payload checksum file strict =
           naming-bind _ _ (naming-tested refl 4 (names checksum) (λ c. last-judged (eqb c checksum) 16 refl)) (λ _.
           naming-bind _ _ (naming-empty strict) (λ _.
           naming-bind _ _ (naming-empty strict) (λ _.
-          naming-bind _ _ (naming-list refl strict (atMost 1024) (λ _ before. recordOf strict (cluster file (entriesOf before))) (judging-most refl 1024 refl) (λ _ before. naming-record refl strict (cluster file (entriesOf before)) (naming-cluster file (entriesOf before)))) (λ clusters.
-          naming-bind _ _ (naming-list refl strict (atMost 64) (λ _ _. link file) (judging-most refl 64 refl) (λ _ _. naming-link file)) (λ metadata.
+          naming-bind _ _ (naming-list refl strict (atMost mostClusters) (λ _ before. recordOf strict (cluster file (entriesOf before))) (judging-most refl mostClusters refl) (λ _ before. naming-record refl strict (cluster file (entriesOf before)) (naming-cluster file (entriesOf before)))) (λ clusters.
+          naming-bind _ _ (naming-list refl strict (atMost mostLinks) (λ _ _. link file) (judging-most refl mostLinks refl) (λ _ _. naming-link file)) (λ metadata.
           naming-give _)))))) .at s p;
     }
 

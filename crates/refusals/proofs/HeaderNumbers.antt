@@ -14,6 +14,7 @@ use Rattle.records.specs.Records.{repetitive, repetition, fieldHead, fieldTexts
 use Rattle.parents.specs.Parents.{allReach}
 use Rattle.header.specs.Header.{Header, flagsOf, aliasesAfter, columnsAfter, lists, payload}
 use Rattle.header.specs.Tables.{parentsOf, endlessFault, chained, headerOf}
+use Rattle.rows.specs.Words.{mostFields, mostColumns, mostAliases}
 use Rattle.refusals.specs.Refusals.{among, inHeader, HeaderNumbers}
 use Rattle.refusals.proofs.Naming.{Named, Naming, named-found, named-refused, named-pick, last-judged, naming-give, naming-here, naming-pick, naming-bind, naming-number, naming-tested, naming-string, naming-features, naming-record, naming-list, judging-most, named-envelope}
 
@@ -61,11 +62,11 @@ naming-lists : (strict : Bool) → Naming inHeader (lists strict)
 unfolding lists columnsAfter aliasesAfter among
 naming-lists strict =
     naming-bind _ _ naming-here (λ fields-at.
-    naming-bind _ _ (naming-list refl strict (atMost 512) (λ n _. recordOf strict (field n)) (judging-most refl 512 refl) (λ n _. naming-record refl strict (field n) (naming-field n))) (λ fields.
+    naming-bind _ _ (naming-list refl strict (atMost mostFields) (λ n _. recordOf strict (field n)) (judging-most refl mostFields refl) (λ n _. naming-record refl strict (field n) (naming-field n))) (λ fields.
     naming-bind _ _ naming-here (λ columns-at.
-    naming-bind _ _ (naming-list refl strict (atMost 1024) (λ _ _. recordOf strict (column (length fields))) (judging-most refl 1024 refl) (λ _ _. naming-record refl strict (column (length fields)) (naming-column (length fields)))) (λ columns.
+    naming-bind _ _ (naming-list refl strict (atMost mostColumns) (λ _ _. recordOf strict (column (length fields))) (judging-most refl mostColumns refl) (λ _ _. naming-record refl strict (column (length fields)) (naming-column (length fields)))) (λ columns.
     naming-bind _ _ naming-here (λ aliases-at.
-    naming-bind _ _ (naming-list refl strict (atMost 256) (λ _ _. recordOf strict (alias (flagsOf fields) (length columns))) (judging-most refl 256 refl) (λ _ _. naming-record refl strict (alias (flagsOf fields) (length columns)) (naming-alias (flagsOf fields) (length columns)))) (λ aliases. naming-give _))))))
+    naming-bind _ _ (naming-list refl strict (atMost mostAliases) (λ _ _. recordOf strict (alias (flagsOf fields) (length columns))) (judging-most refl mostAliases refl) (λ _ _. naming-record refl strict (alias (flagsOf fields) (length columns)) (naming-alias (flagsOf fields) (length columns)))) (λ aliases. naming-give _))))))
 
 naming-texts : Naming inHeader texts
 unfolding texts among

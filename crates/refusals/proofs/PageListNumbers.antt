@@ -5,6 +5,7 @@ use mathlib.Core.Bool.{Bool}
 use mathlib.Core.List.{List}
 use lib.Dec.{eqb, leb, ltb}
 use lib.ListN.{length}
+use Rattle.rows.specs.Words.{mostColumns}
 use Rattle.wire.specs.Reading.{Step, found, refused}
 use Rattle.envelope.specs.Envelope.{envelope}
 use Rattle.header.specs.Header.{Lists}
@@ -33,7 +34,7 @@ naming-payload : (file : ℕ) (bits : List ℕ) (strict : Bool) → Naming inPag
 unfolding payload among
 naming-payload file bits strict =
     naming-list refl strict (perColumn (length bits)) (λ _. pagesAfter strict file bits)
-    (λ n. unless-judged (leb n 1024) 10 _ refl (last-judged (eqb n (length bits)) 19 refl))
+    (λ n. unless-judged (leb n mostColumns) 10 _ refl (last-judged (eqb n (length bits)) 19 refl))
     (λ _ before. naming-pages strict file _ _ _)
 
 named-summed : (entries : ℕ) (l : Lists) (x : Step (List (List PageRow))) → Named inPageList x → Named inPageList (summed entries l x)

@@ -3,6 +3,7 @@ use Prim.Native.Nat.{ℕ, _<_}
 use mathlib.Core.List.{List, [], _∷_}
 use mathlib.Core.Path.{_≡_}
 use lib.ListN.{length}
+use Rattle.rows.specs.Words.{fullFields, fullColumns, fullAliases}
 use Rattle.wire.specs.Reading.{Step}
 use Rattle.header.specs.Header.{Header}
 use Rattle.header.specs.Tables.{headerOf, answer}
@@ -11,9 +12,9 @@ use Rattle.header.specs.declared.HeaderAnswer.the-variants.{Refused}
 use Rattle.report.specs.Line.{text}
 use Rattle.report.specs.Program.{verdict, printed}
 
--- the answer where the lent tables are full ones: 512 fields of 15 words, 1,024 columns of 4, 256 aliases of 2
+-- the answer where the lent tables have room for all the rows that a header may have
 abbrev pub fullAnswer : Step Header → HeaderAnswer
-fullAnswer = answer 7680 4096 512
+fullAnswer = answer fullFields fullColumns fullAliases
 
 -- full tables have room for every header that is accepted
 abbrev pub FullTablesSuffice : Type 0

@@ -22,9 +22,9 @@ pub fn check_header(input: &[u8]) -> Line
     if 65536 < input.len() {
         return longer_line();
     }
-    let mut fields = [0u64; 7680];
-    let mut columns = [0u64; 4096];
-    let mut aliases = [0u64; 512];
+    let mut fields = [0u64; rows::FULL_FIELDS];
+    let mut columns = [0u64; rows::FULL_COLUMNS];
+    let mut aliases = [0u64; rows::FULL_ALIASES];
     header_line(header_reader::read_header(input, &mut fields, &mut columns, &mut aliases))
 }
 

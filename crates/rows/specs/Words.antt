@@ -1,5 +1,5 @@
 -- The words of a row, and the row that some words are.
-use Prim.Native.Nat.{ℕ, _+_}
+use Prim.Native.Nat.{ℕ, _+_, _*_}
 use mathlib.Core.List.{List, [], _∷_, _++_}
 use mathlib.Core.Bool.{Bool, true, false}
 use lib.ListN.{getD}
@@ -53,6 +53,17 @@ mostLinks = 64
 
 abbrev pub mostPages : ℕ
 mostPages = 16384
+
+-- the words of a table that has room for all of them
+
+abbrev pub fullFields : ℕ
+fullFields = fieldWidth * mostFields
+
+abbrev pub fullColumns : ℕ
+fullColumns = columnWidth * mostColumns
+
+abbrev pub fullAliases : ℕ
+fullAliases = aliasWidth * mostAliases
 
 -- the words of a row
 

@@ -35,6 +35,13 @@ pub const LINK_WORDS: usize = 2;
 
 pub const PAGE_WORDS: usize = 5;
 
+// The words of a table that has room for all the rows that there can be.
+pub const FULL_FIELDS: usize = FIELD_WORDS * MOST_FIELDS;
+
+pub const FULL_COLUMNS: usize = COLUMN_WORDS * MOST_COLUMNS;
+
+pub const FULL_ALIASES: usize = ALIAS_WORDS * MOST_ALIASES;
+
 // A string: where its bytes stand in the envelope, and how many they are.
 pub struct Text {
     pub place: usize,

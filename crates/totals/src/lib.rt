@@ -32,10 +32,10 @@ fn agrees(entries: u64, column_type: u64, elements: u64) -> u64
 
 // For each field, 1 where its first column, if it has one, agrees with the entries, else 0. The columns are noted from the
 // last to the first, so that of two on one field the first stays.
-fn agreeing(entries: u64, columns: &[u64], n: usize, sums: &[u64]) -> [u64; 512]
+fn agreeing(entries: u64, columns: &[u64], n: usize, sums: &[u64]) -> [u64; rows::MOST_FIELDS]
     ensures { λ r. ⌜ ((f : ℕ) → f < mostFields → getD r f 0 ≡ bit (totalOf entries f (columnsIn (now (columns .entry)) n) (now (sums .entry)))) ⌝ }
 {
-    let mut marks = [1u64; 512];
+    let mut marks = [1u64; rows::MOST_FIELDS];
     let mut i = n;
     if sums.len() < n {
         i = sums.len();
@@ -53,10 +53,10 @@ fn agreeing(entries: u64, columns: &[u64], n: usize, sums: &[u64]) -> [u64; 512]
 }
 
 // The totals agree for field f, whose first column has that mark.
-fn field_agrees(f: usize, parent: usize, flags: u64, mark: u64) -> bool
+fn field_agrees(f: usize, parent: u16, flags: u64, mark: u64) -> bool
     ensures { λ r. ⌜ r ≡ pick (counts f parent flags) (eqb mark 1) true ⌝ }
 {
-    if parent == f {
+    if parent as usize == f {
         if flags == 0 {
             return mark == 1;
         }
@@ -69,7 +69,7 @@ fn field_agrees(f: usize, parent: usize, flags: u64, mark: u64) -> bool
 // a table, which have these sums of elements.
 pub fn totals_of(
     entries: u64,
-    parents: &[usize],
+    parents: &[u16],
     flags: &[u64],
     columns: &[u64],
     n: usize,

@@ -3,7 +3,7 @@ use mathlib.Core.Path.{_≡_, refl, sym, ap, _∙_}
 use native.Mathlib.Omega.{arith}
 use lib.ListN.{length, take, replicate, length-set}
 use lib.Seq.{take-all}
-use Rattle.header_payload.proofs.LaidLaws.{clear-more}
+use Rattle.header_lists.proofs.LaidLaws.{clear-more}
 use Rattle.header_payload.proofs.clear_table.Statement.{statement}
 use Rattle.header_payload.proofs.clear_table.Tie as tie
 

@@ -2,13 +2,11 @@ use Prim.Native.Nat.{ℕ}
 use mathlib.Core.List.{List}
 use lib.ListN.{replicate}
 use mathlib.Core.Path.{sym, ap, _∙_}
-use native.Mathlib.Omega.{arith}
 use Rattle.wire.proofs.Laws.{mapped-found, mapped-refused}
-use Rattle.field_records.specs.Answers.{textsStep}
 use Rattle.envelope.specs.Envelope.{whole}
 use Rattle.header.specs.Header.{payload}
-use Rattle.header_payload.specs.Answers.{scanStep, scanOf, numberIn}
-use Rattle.header_payload.proofs.ListLaws.{few-fields, scan-is}
+use Rattle.header_payload.specs.Answers.{scanStep, scanOf}
+use Rattle.header_payload.proofs.ListLaws.{scan-is}
 use Rattle.header_payload.proofs.PayloadLaws.{settled-found, settled-refused}
 use borrow.Author.Needs.{needs}
 use Rattle.header_payload.proofs.scan_payload.Statement.{statement}
@@ -24,8 +22,7 @@ scan-column-list-requires : tie.Need-scan-column-list-requires
 scan-column-list-requires c κs = search needs
 
 scan-alias-list-requires : tie.Need-scan-alias-list-requires
-scan-alias-list-requires c κs = let few = few-fields (c .before .before .before .before .before .before .before .before .before .before .before .before .before .before .before .before .before .before .args .strict) (c .before .before .before .before .before .before .before .before .before .before .before .before .before .before .before .before .before .before .args .s .now) (textsStep (c .before .before .before .before .before .before .before .before .before .before .before .before .before .texts-at .result)) in
-    omega (arith, few, ap numberIn (c .before .before .before .before .before .before .before .before .before .scan-field-list .ensures .0), c .before .scan-alias-list-arg2 .given)
+scan-alias-list-requires c κs = search needs
 
 gather-requires : tie.Need-gather-requires
 gather-requires c κs = search needs

@@ -5,6 +5,7 @@ use native.Mathlib.Omega.{arith}
 use Rattle.wire.proofs.Laws.{mapped-refused}
 use Rattle.envelope.specs.Envelope.{checksumOf}
 use Rattle.header_payload.specs.Answers.{scanStep, scanOf}
+use Rattle.rows.specs.Words.{fullColumns}
 use Rattle.header_schema.proofs.ScanLaws.{long-enough, schema-found, schema-refused}
 use borrow.Author.Needs.{needs}
 use Rattle.header_schema.proofs.read_schema.Statement.{statement}
@@ -14,7 +15,7 @@ slice-aggregate-scan-header : tie.Need-slice-aggregate-scan-header
 slice-aggregate-scan-header c = sym (length-replicate {A = ℕ} 0 0)
 
 slice-aggregate-scan-header-2 : tie.Need-slice-aggregate-scan-header-2
-slice-aggregate-scan-header-2 c = sym (length-replicate {A = ℕ} 4096 0)
+slice-aggregate-scan-header-2 c = sym (length-replicate {A = ℕ} fullColumns 0)
 
 slice-aggregate-scan-header-3 : tie.Need-slice-aggregate-scan-header-3
 slice-aggregate-scan-header-3 c = sym (length-replicate {A = ℕ} 0 0)

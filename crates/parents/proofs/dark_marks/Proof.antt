@@ -1,4 +1,5 @@
 use mathlib.Core.Path.{sym, _∙_}
+use Rattle.rows.specs.Words.{mostFields}
 use Rattle.parents.specs.Dark.{darkMark}
 use Rattle.parents.proofs.InsideLaws.{inside-few, inside-is}
 use Rattle.parents.proofs.Darkening.{none-marked}
@@ -18,7 +19,7 @@ returns c = λ f. let e = sym (c .before .before .all-inside .ensures) ∙ c .be
 
 returns-2 : tie.Need-returns-2
 unfolding darkMark
-returns-2 c = λ f. let e = sym (c .before .all-inside .ensures) ∙ c .if1 .left in rw e (none-marked 512 f)
+returns-2 c = λ f. let e = sym (c .before .all-inside .ensures) ∙ c .if1 .left in rw e (none-marked mostFields f)
 
 pub dark-marks-spec : {M : Type 1} → statement M
 dark-marks-spec = tie.close (tie.spec all-inside-requires marks-of-requires returns returns-2)

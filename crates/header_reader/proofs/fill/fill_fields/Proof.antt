@@ -25,11 +25,11 @@ loop-holds c = (holds-none, omega arith)
 field-row-requires : tie.Need-field-row-requires Inv-loop μ-loop
 field-row-requires c κs = search needs
 
-mul-put-field : tie.Need-mul-put-field Inv-loop μ-loop
-mul-put-field c = search needs
-
 shared-slice-read-put-field : tie.Need-shared-slice-read-put-field Inv-loop μ-loop
 shared-slice-read-put-field c = search needs
+
+cast-put-field : tie.Need-cast-put-field Inv-loop μ-loop
+cast-put-field c = omega (arith, c .shared-slice-known3 .given (c .before .before .before .before .loop .i))
 
 put-field-requires : tie.Need-put-field-requires Inv-loop μ-loop
 put-field-requires c κs = search needs
@@ -64,8 +64,8 @@ fill-fields-spec =
     μ-loop
     loop-holds
     field-row-requires
-    mul-put-field
     shared-slice-read-put-field
+    cast-put-field
     put-field-requires
     add-i
     loop-less

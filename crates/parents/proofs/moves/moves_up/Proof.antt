@@ -15,38 +15,38 @@ abbrev μ-loop : tie.MeasureT-loop
 μ-loop parents n count₀ f₀ count f = moves parents n (f .0)
 
 loop-holds : tie.Need-loop-holds Inv-loop μ-loop
-loop-holds c = (c .pre .0 .1, c .pre .1 .1, omega arith)
+loop-holds c = (c .before .pre .0 .1, c .before .pre .1 .1, omega arith)
 
 parent-of-requires : tie.Need-parent-of-requires Inv-loop μ-loop
-parent-of-requires c κs = let p = c .before .pre .0 .0 in let w = c .loop .inv .0 in omega arith
+parent-of-requires c κs = let p = c .before .before .pre .0 .0 in let w = c .loop .inv .0 in omega arith
 
 returns : tie.Need-returns Inv-loop μ-loop
-returns c = let s = c .before .before .before .before .before .args in
+returns c = let s = c .before .before .before .before .before .before .args in
     let l = c .before .before .before .before .loop in
     let t = moves-top (s .parents .now) (s .n) (l .f .0) (eq-eqb _ _ (sym (c .before .before .before .parent-of .ensures) ∙ c .if1 .taken)) in
     let i = l .inv .2 in
     omega arith
 
 add-count : tie.Need-add-count Inv-loop μ-loop
-add-count c = let s = c .before .before .before .before .before .args in
+add-count c = let s = c .before .before .before .before .before .before .args in
     let b = moves-le (s .parents .now) (s .n) (s .field .0) in
     let i = c .before .before .before .before .loop .inv .2 in
     omega arith
 
 loop-less : tie.Need-loop-less Inv-loop μ-loop
-loop-less c = let s = c .before .before .before .before .before .args in
+loop-less c = let s = c .before .before .before .before .before .before .args in
     let l = c .before .before .before .before .loop in
     let m = moves-up (s .parents .now) (s .n) (l .f .0) (l .inv .1) (ne-eqb _ _ (λ e. c .if1 .left (c .before .before .before .parent-of .ensures ∙ e))) in
     let e = ap (moves (s .parents .now) (s .n)) (c .before .before .before .parent-of .ensures) in
     omega arith
 
 loop-again : tie.Need-loop-again Inv-loop μ-loop
-loop-again c = let s = c .before .before .before .before .before .args in
+loop-again c = let s = c .before .before .before .before .before .before .args in
     let l = c .before .before .before .before .loop in
     let m = moves-up (s .parents .now) (s .n) (l .f .0) (l .inv .1) (ne-eqb _ _ (λ e. c .if1 .left (c .before .before .before .parent-of .ensures ∙ e))) in
     let e = ap (moves (s .parents .now) (s .n)) (c .before .before .before .parent-of .ensures) in
     let i = l .inv .2 in
-    let inside = c .before .before .before .before .before .pre .1 .0 (l .f .0) (l .inv .0) in
+    let inside = c .before .before .before .before .before .before .pre .1 .0 (l .f .0) (l .inv .0) in
     let u = c .before .before .before .parent-of .ensures in
     (omega arith, rw u (m .1), omega arith)
 

@@ -1,11 +1,13 @@
 use Prim.Native.Nat.{_≤_, _-_}
 use mathlib.Core.Path.{_≡_, refl, sym, _∙_}
 use native.Mathlib.Omega.{arith}
+use Rattle.rows.specs.Words.{mostFields}
 use Rattle.parents.specs.Parents.{endless}
 use Rattle.parents.specs.Marks.{Marked}
 use Rattle.parents.specs.declared.Chains.the-variants.{AllEnd}
 use Rattle.parents.proofs.Following.{marked-none}
 use Rattle.parents.proofs.EndlessLaws.{endless-more, endless-found, endless-take}
+use borrow.Author.Needs.{needs}
 use Rattle.parents.proofs.walk.lowest_endless.Statement.{statement}
 use Rattle.parents.proofs.walk.lowest_endless.Tie as tie
 
@@ -17,10 +19,14 @@ abbrev μ-loop : tie.MeasureT-loop
 
 loop-holds : tie.Need-loop-holds Inv-loop μ-loop
 unfolding endless
-loop-holds c = (omega arith, refl, marked-none _ _ 512 (c .pre .0))
+loop-holds c = (omega arith, refl, marked-none _ _ mostFields (c .pre .0))
+
+slice-aggregate-follow : tie.Need-slice-aggregate-follow Inv-loop μ-loop
+slice-aggregate-follow c = search needs
 
 follow-requires : tie.Need-follow-requires Inv-loop μ-loop
-follow-requires c κs = ((c .before .before .before .before .pre .0, c .before .before .loop-test .taken), (c .before .before .before .before .pre .1, c .before .before .before .loop .inv .2))
+follow-requires c κs = let p = c .before .before .before .before .pre in
+    ((p .0, c .before .before .loop-test .taken, omega (arith, p .0, c .before .before .before .before .good)), (p .1, c .before .before .before .loop .inv .2))
 
 add-f : tie.Need-add-f Inv-loop μ-loop
 add-f c = omega arith
@@ -50,6 +56,7 @@ lowest-endless-spec =
     Inv-loop
     μ-loop
     loop-holds
+    slice-aggregate-follow
     follow-requires
     add-f
     loop-less

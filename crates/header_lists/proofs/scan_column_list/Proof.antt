@@ -6,11 +6,11 @@ use Rattle.frames.specs.Frames.{recordOf, atMost}
 use Rattle.frames.specs.Answers.{listStep}
 use Rattle.rows.specs.Words.{mostColumns}
 use Rattle.records.specs.Records.{column}
-use Rattle.header_payload.specs.Answers.{columnsNext}
-use Rattle.header_payload.proofs.KeptLaws.{kept-list, counted-list, kept-refused, head-refused}
+use Rattle.header_lists.specs.Next.{columnsNext}
+use Rattle.header_lists.proofs.KeptLaws.{kept-list, counted-list, kept-refused, head-refused}
 use borrow.Author.Needs.{needs}
-use Rattle.header_payload.proofs.lists.scan_column_list.Statement.{statement}
-use Rattle.header_payload.proofs.lists.scan_column_list.Tie as tie
+use Rattle.header_lists.proofs.scan_column_list.Statement.{statement}
+use Rattle.header_lists.proofs.scan_column_list.Tie as tie
 
 enum-known-fields : tie.Need-enum-known-fields
 enum-known-fields c = search needs

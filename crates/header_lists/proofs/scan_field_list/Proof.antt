@@ -8,11 +8,11 @@ use Rattle.rows.specs.Words.{mostFields}
 use Rattle.records.specs.Records.{field}
 use Rattle.field_records.specs.Answers.{textsStep}
 use Rattle.field_records.specs.declared.TextsStep.{TextsStep}
-use Rattle.header_payload.specs.Answers.{fieldsNext}
-use Rattle.header_payload.proofs.KeptLaws.{kept-list, counted-list, kept-refused, head-refused}
+use Rattle.header_lists.specs.Next.{fieldsNext}
+use Rattle.header_lists.proofs.KeptLaws.{kept-list, counted-list, kept-refused, head-refused}
 use borrow.Author.Needs.{needs}
-use Rattle.header_payload.proofs.lists.scan_field_list.Statement.{statement}
-use Rattle.header_payload.proofs.lists.scan_field_list.Tie as tie
+use Rattle.header_lists.proofs.scan_field_list.Statement.{statement}
+use Rattle.header_lists.proofs.scan_field_list.Tie as tie
 
 enum-known-texts : tie.Need-enum-known-texts
 enum-known-texts c = search needs
@@ -28,7 +28,7 @@ up-to-requires c κs = search needs
 
 scan-fields-requires : tie.Need-scan-fields-requires
 scan-fields-requires c κs = let most = count-most mostFields _ _ (sym (c .before .before .before .before .before .before .before .list-head-at-most .ensures) ∙ ap listStep (c .before .before .before .before .before .head .given .1)) in
-    (omega (arith, most, c .before .before .scan-fields-arg .given), omega (arith, most, c .before .scan-fields-arg2 .given))
+    (most, omega (arith, most, c .before .before .scan-fields-arg .given), omega (arith, most, c .before .scan-fields-arg2 .given))
 
 close-list-requires : tie.Need-close-list-requires
 close-list-requires c κs = search needs

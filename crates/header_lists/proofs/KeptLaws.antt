@@ -13,8 +13,8 @@ use Rattle.frames.specs.Frames.{items, listOf, listHead, closedBy}
 use Rattle.frames.specs.declared.ListHead.{ListHead}
 use Rattle.frames.proofs.Laws.{closed-found, counted-closed}
 use Rattle.frames.proofs.Loops.{Reached, reached-all, list-is}
-use Rattle.header_payload.specs.Kept.{Kept, laid}
-use Rattle.header_payload.proofs.LaidLaws.{Laid}
+use Rattle.header_lists.specs.Kept.{Kept, laid}
+use Rattle.header_lists.proofs.LaidLaws.{Laid}
 
 -- what was found, laid over a table
 pub kept-found : {A : Type 0} (lay : A → List ℕ → List ℕ) {x : Step A} {old new : List ℕ} {b : A} {q : ℕ} → x ≡ found b q → new ≡ lay b old → Kept lay x old new

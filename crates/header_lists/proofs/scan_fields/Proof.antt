@@ -1,19 +1,20 @@
-use Prim.Native.Nat.{_-_}
+use Prim.Native.Nat.{_-_, _<_}
 use mathlib.Core.Path.{refl, sym, ap, _∙_}
 use mathlib.Core.List.{[], _∷_}
 use native.Mathlib.Omega.{arith}
 use Rattle.frames.specs.Frames.{recordOf}
-use Rattle.frames.proofs.Loops.{Reached, reached-none, reached-more, reached-refused, reached-counted}
+use Rattle.frames.proofs.Loops.{record-found, Reached, reached-none, reached-more, reached-refused, reached-counted}
 use Rattle.rows.proofs.TableLaws.{Holds, holds-none, holds-set}
 use Rattle.rows.specs.Words.{fieldWidth, fieldWords}
 use Rattle.rows.specs.declared.FieldRow.{FieldRow}
 use Rattle.records.specs.Records.{field}
+use Rattle.records.proofs.Bounds.{field-parent}
 use Rattle.field_records.specs.Answers.{fieldStep}
-use Rattle.header_payload.proofs.LaidLaws.{Laid, laid-none, laid-more}
-use Rattle.header_payload.proofs.KeptLaws.{kept-word, kept-rows, kept-refused}
+use Rattle.header_lists.proofs.LaidLaws.{Laid, laid-none, laid-more}
+use Rattle.header_lists.proofs.KeptLaws.{kept-word, kept-rows, kept-refused}
 use borrow.Author.Needs.{needs}
-use Rattle.header_payload.proofs.lists.scan_fields.Statement.{statement}
-use Rattle.header_payload.proofs.lists.scan_fields.Tie as tie
+use Rattle.header_lists.proofs.scan_fields.Statement.{statement}
+use Rattle.header_lists.proofs.scan_fields.Tie as tie
 
 abbrev Inv-loop : tie.InvT-loop
 Inv-loop s strict list parents₀ flags₀ rows₀ count i₀ at₀ parents flags rows i at =
@@ -35,35 +36,42 @@ field-record-requires c κs = search needs
 enum-known-row : tie.Need-enum-known-row Inv-loop μ-loop
 enum-known-row c = search needs
 
+cast-parents : tie.Need-cast-parents Inv-loop μ-loop
+cast-parents c = let a = c .before .before .before .before .before .before .before .before .before .before .before .before .before .args in
+    let n = a .head .count in
+    let few = c .before .before .before .before .before .before .before .before .before .before .before .before .before .pre .0 in
+    let under = record-found (λ (r : FieldRow). r .head .parent .0 < n) (a .strict) (field n) (a .s .now) _ (λ u at q. field-parent n u at) (sym (c .before .before .before .before .before .before .field-record .ensures) ∙ ap fieldStep (c .before .before .before .before .row .given .1)) in
+    omega arith
+
 mul-parents : tie.Need-mul-parents Inv-loop μ-loop
-mul-parents c = omega (arith, c .before .before .before .before .before .before .before .before .before .before .before .before .good)
+mul-parents c = omega (arith, c .before .before .before .before .before .before .before .before .before .before .before .before .before .good)
 
 slice-write-parents : tie.Need-slice-write-parents Inv-loop μ-loop
-slice-write-parents c = omega (arith, c .before .before .before .before .before .before .before .before .before .before .before .before .pre)
+slice-write-parents c = omega (arith, c .before .before .before .before .before .before .before .before .before .before .before .before .before .pre)
 
 mul-flags : tie.Need-mul-flags Inv-loop μ-loop
-mul-flags c = omega (arith, c .before .before .before .before .before .before .before .before .before .before .before .before .good)
+mul-flags c = omega (arith, c .before .before .before .before .before .before .before .before .before .before .before .before .before .good)
 
 slice-write-flags : tie.Need-slice-write-flags Inv-loop μ-loop
-slice-write-flags c = omega (arith, c .before .before .before .before .before .before .before .before .before .before .before .before .pre)
+slice-write-flags c = omega (arith, c .before .before .before .before .before .before .before .before .before .before .before .before .before .pre)
 
 put-field-requires : tie.Need-put-field-requires Inv-loop μ-loop
 put-field-requires c κs = search needs
 
 add-i : tie.Need-add-i Inv-loop μ-loop
-add-i c = omega (arith, c .before .before .before .before .before .before .before .before .before .before .before .before .before .before .before .before .good)
+add-i c = omega (arith, c .before .before .before .before .before .before .before .before .before .before .before .before .before .before .before .before .before .good)
 
 loop-less : tie.Need-loop-less Inv-loop μ-loop
 loop-less c = omega arith
 
 loop-again : tie.Need-loop-again Inv-loop μ-loop
 unfolding reached-more
-loop-again c = let l = c .before .before .before .before .before .before .before .before .before .before .before .loop in
+loop-again c = let l = c .before .before .before .before .before .before .before .before .before .before .before .before .loop in
     let m = l .inv in
-    let x = c .before .before .before .before .before .before .before .row .given .0 .0 in (
-      reached-more (m .0) (c .before .before .before .before .before .before .before .before .before .before .loop-test .taken) (sym (c .before .before .before .before .before .before .before .before .before .field-record .ensures) ∙ ap fieldStep (c .before .before .before .before .before .before .before .row .given .1)),
-      holds-set x (λ _ _. refl) refl (m .1) (m .0 .count) (omega (arith, c .before .before .before .before .before .before .before .before .before .before .before .before .before .before .before .before .pre)),
-      holds-set x (λ _ _. refl) refl (m .2) (m .0 .count) (omega (arith, c .before .before .before .before .before .before .before .before .before .before .before .before .before .before .before .before .pre)),
+    let x = c .before .before .before .before .before .before .before .before .row .given .0 .0 in (
+      reached-more (m .0) (c .before .before .before .before .before .before .before .before .before .before .before .loop-test .taken) (sym (c .before .before .before .before .before .before .before .before .before .before .field-record .ensures) ∙ ap fieldStep (c .before .before .before .before .before .before .before .before .row .given .1)),
+      holds-set x (λ _ _. refl) refl (m .1) (m .0 .count) (omega (arith, c .before .before .before .before .before .before .before .before .before .before .before .before .before .before .before .before .before .pre)),
+      holds-set x (λ _ _. refl) refl (m .2) (m .0 .count) (omega (arith, c .before .before .before .before .before .before .before .before .before .before .before .before .before .before .before .before .before .pre)),
       laid-more x (m .3) (m .0 .count) (c .before .before .put-field .ensures) (c .before .before .put-field .kept .0),
     )
 
@@ -109,6 +117,7 @@ scan-fields-spec =
     loop-holds
     field-record-requires
     enum-known-row
+    cast-parents
     mul-parents
     slice-write-parents
     mul-flags

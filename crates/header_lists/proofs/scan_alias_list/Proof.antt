@@ -1,8 +1,7 @@
 use Prim.Native.Nat.{ℕ}
+use mathlib.Core.List.{List}
 use mathlib.Core.Path.{sym, ap, _∙_}
-use native.Mathlib.Omega.{arith}
 use lib.ListN.{take}
-use lib.Seq.{length-take-le}
 use Rattle.wire.specs.Reading.{counted}
 use Rattle.wire.specs.Answers.{numberStep}
 use Rattle.wire.specs.declared.NumberStep.{NumberStep}
@@ -11,11 +10,11 @@ use Rattle.frames.specs.Answers.{listStep}
 use Rattle.rows.specs.Words.{mostAliases}
 use Rattle.records.specs.Records.{alias}
 use Rattle.header.specs.Header.{aliasList}
-use Rattle.header_payload.specs.Answers.{aliasesNext}
-use Rattle.header_payload.proofs.KeptLaws.{kept-list, counted-list, kept-refused, head-refused}
+use Rattle.header_lists.specs.Next.{aliasesNext}
+use Rattle.header_lists.proofs.KeptLaws.{kept-list, counted-list, kept-refused, head-refused}
 use borrow.Author.Needs.{needs}
-use Rattle.header_payload.proofs.lists.scan_alias_list.Statement.{statement}
-use Rattle.header_payload.proofs.lists.scan_alias_list.Tie as tie
+use Rattle.header_lists.proofs.scan_alias_list.Statement.{statement}
+use Rattle.header_lists.proofs.scan_alias_list.Tie as tie
 
 enum-known-columns : tie.Need-enum-known-columns
 enum-known-columns c = search needs
@@ -29,11 +28,11 @@ enum-known-head c = search needs
 number-in-requires : tie.Need-number-in-requires
 number-in-requires c κs = search needs
 
+first-words-requires : tie.Need-first-words-requires
+first-words-requires c κs = search needs
+
 up-to-requires : tie.Need-up-to-requires
 up-to-requires c κs = search needs
-
-slice-aggregate-scan-aliases : tie.Need-slice-aggregate-scan-aliases
-slice-aggregate-scan-aliases c = sym (length-take-le _ _ (omega (arith, c .before .before .number-in .ensures, c .before .before .before .before .before .before .before .before .before .before .before .before .before .pre)))
 
 scan-aliases-requires : tie.Need-scan-aliases-requires
 scan-aliases-requires c κs = search needs
@@ -53,14 +52,14 @@ same-length c = c .before .before .before .scan-aliases .kept .1 .1 .1 .1 .1 .1 
 returns : tie.Need-returns
 returns c = let a = c .before .before .before .before .before .before .before .before .before .before .before .before .before .before .before .before .before .before .args in
     let m = c .before .before .before .before .before .before .before .before .before .before .before .before .before .columns .given .0 .0 in
-    let known = take (c .before .before .before .before .before .before .before .number-in .result) (a .flags .now) in
+    let known = c .before .before .before .before .before .before .first-words .result .now in
     let is =
     ap (λ (x : NumberStep). aliasesNext (a .strict) (a .s .now) (a .flags .now) (numberStep (a .fields)) (numberStep x)) (c .before .before .before .before .before .before .before .before .before .before .before .before .before .columns .given .1)
-    ∙ sym (ap (λ (n : ℕ). aliasList (a .strict) (take n (a .flags .now)) m (a .s .now) (c .before .before .before .before .before .before .before .before .before .before .before .before .before .columns .given .0 .1 .0)) (c .before .before .before .before .before .before .before .number-in .ensures)) in
+    ∙ ap (λ (v : List ℕ). aliasList (a .strict) v m (a .s .now) (c .before .before .before .before .before .before .before .before .before .before .before .before .before .columns .given .0 .1 .0)) (sym (c .before .before .before .before .before .before .first-words .ensures ∙ ap (λ (n : ℕ). take n (a .flags .now)) (c .before .before .before .before .before .before .before .number-in .ensures))) in
     let head = sym (c .before .before .before .before .before .before .before .before .before .before .before .list-head-at-most .ensures) ∙ ap listStep (c .before .before .before .before .before .before .before .before .before .head .given .1) in
     let k = c .before .before .before .scan-aliases .ensures in (
-      counted-list (a .strict) (atMost mostAliases) (λ _ _. recordOf (a .strict) (alias known m)) (a .s .now) _ is head (c .before .before .before .before .before .before .up-to .ensures) (k .0) (c .close-list .ensures),
-      kept-list (a .strict) (atMost mostAliases) (λ _ _. recordOf (a .strict) (alias known m)) (a .s .now) _ is head (c .before .before .before .before .before .before .up-to .ensures) (k .1),
+      counted-list (a .strict) (atMost mostAliases) (λ _ _. recordOf (a .strict) (alias known m)) (a .s .now) _ is head (c .before .before .before .before .before .up-to .ensures) (k .0) (c .close-list .ensures),
+      kept-list (a .strict) (atMost mostAliases) (λ _ _. recordOf (a .strict) (alias known m)) (a .s .now) _ is head (c .before .before .before .before .before .up-to .ensures) (k .1),
     )
 
 returns-2 : tie.Need-returns-2
@@ -83,8 +82,8 @@ scan-alias-list-spec =
     list-head-at-most-requires
     enum-known-head
     number-in-requires
+    first-words-requires
     up-to-requires
-    slice-aggregate-scan-aliases
     scan-aliases-requires
     close-list-requires
     enum-known-f

@@ -11,13 +11,14 @@ use rows::FieldNumber;
 use wire::NumberStep;
 ghost use mathlib.Core.Path.{_≡_};
 ghost use Prim.Native.Nat.{_≤_};
-ghost use lib.ListN.{length};
+ghost use lib.ListN.{length, take};
+ghost use Rattle.rows.specs.Words.{mostFields};
 ghost use Rattle.wire.specs.Reading.{counted};
 ghost use Rattle.wire.specs.Answers.{numberStep};
 ghost use Rattle.field_records.specs.Answers.{textsStep};
 ghost use Rattle.header.specs.Header.{fieldItems, columnItems, aliasItems};
-ghost use Rattle.header_payload.specs.Answers.{fieldsNext, columnsNext, aliasesNext, numberIn};
-ghost use Rattle.header_payload.specs.Kept.{Kept, layParents, layFlags, layFields, layColumns, layAliases};
+ghost use Rattle.header_lists.specs.Next.{fieldsNext, columnsNext, aliasesNext, numberIn};
+ghost use Rattle.header_lists.specs.Kept.{Kept, layParents, layFlags, layFields, layColumns, layAliases};
 
 // The verdict on the fields of a list at `list`, whose head was read; where they are accepted, `parents` and `flags` have those of
 // each, and `rows` has the row of each for which there is room.
@@ -26,11 +27,11 @@ fn scan_fields(
     strict: bool,
     list: usize,
     head: ListHead,
-    parents: &mut [usize],
+    parents: &mut [u16],
     flags: &mut [u64],
     rows: &mut [u64],
 ) -> NumberStep
-    requires { ⌜ (head .count ≤ length (now parents)) × (head .count ≤ length (now flags)) ⌝ }
+    requires { ⌜ (head .count ≤ mostFields) × (head .count ≤ length (now parents)) × (head .count ≤ length (now flags)) ⌝ }
     ensures { λ r. ⌜ numberStep r ≡ counted (fieldItems (now (s .entry)) strict list head) ⌝ }
     ensures { λ r. ⌜ Kept layParents (fieldItems (now (s .entry)) strict list head) (now (parents .entry)) (now (parents .exit)) ⌝ }
     ensures { λ r. ⌜ Kept layFlags (fieldItems (now (s .entry)) strict list head) (now (flags .entry)) (now (flags .exit)) ⌝ }
@@ -44,7 +45,7 @@ fn scan_fields(
             FieldStep::Found(row, next) => {
                 let row_head = row.head;
                 let parent = row_head.parent;
-                parents[i] = parent.0 as usize;
+                parents[i] = parent.0 as u16;
                 flags[i] = row_head.flags;
                 field_rows::put_field(rows, FieldNumber(i as u64), row, 0);
                 at = next;
@@ -63,8 +64,8 @@ pub fn scan_field_list(
     s: &[u8],
     strict: bool,
     texts: TextsStep,
-    parents: &mut [usize; 512],
-    flags: &mut [u64; 512],
+    parents: &mut [u16; rows::MOST_FIELDS],
+    flags: &mut [u64; rows::MOST_FIELDS],
     rows: &mut [u64],
 ) -> NumberStep
     ensures { λ r. ⌜ numberStep r ≡ counted (fieldsNext strict (now (s .entry)) (textsStep texts)) ⌝ }
@@ -186,6 +187,16 @@ pub fn number_in(step: NumberStep) -> usize
     }
 }
 
+// The first words, as many as there are of n.
+fn first_words(words: &[u64], n: usize) -> &[u64]
+    ensures { λ r. ⌜ now r ≡ take n (now (words .entry)) ⌝ }
+{
+    if n <= words.len() {
+        return &words[..n];
+    }
+    words
+}
+
 // The verdict on the list of aliases after the other two, where `flags` has those of the fields: how many they are, and the place
 // after their frame.
 pub fn scan_alias_list(
@@ -196,7 +207,6 @@ pub fn scan_alias_list(
     columns: NumberStep,
     rows: &mut [u64],
 ) -> NumberStep
-    requires { ⌜ numberIn (numberStep fields) ≤ length (now flags) ⌝ }
     ensures { λ r. ⌜ numberStep r ≡ counted (aliasesNext strict (now (s .entry)) (now (flags .entry)) (numberStep fields) (numberStep columns)) ⌝ }
     ensures { λ r. ⌜ Kept layAliases (aliasesNext strict (now (s .entry)) (now (flags .entry)) (numberStep fields) (numberStep columns)) (now (rows .entry)) (now (rows .exit)) ⌝ }
 {
@@ -207,9 +217,9 @@ pub fn scan_alias_list(
             rows::MOST_ALIASES,
         ) {
             ListStep::Found(head, stop) => {
-                let n = number_in(fields);
+                let of_fields = first_words(flags, number_in(fields));
                 let inner = frames::up_to(s, stop);
-                let scanned = scan_aliases(inner, strict, at, head, &flags[..n], m, rows);
+                let scanned = scan_aliases(inner, strict, at, head, of_fields, m, rows);
                 list_frames::close_list(scanned, strict, at, head.count, stop)
             }
             ListStep::Refused(f) => NumberStep::Refused(f),

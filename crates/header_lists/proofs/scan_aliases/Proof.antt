@@ -6,11 +6,11 @@ use Rattle.frames.proofs.Loops.{Reached, reached-none, reached-more, reached-re
 use Rattle.rows.specs.Words.{aliasWidth, aliasWords}
 use Rattle.records.specs.Records.{alias}
 use Rattle.column_records.specs.Answers.{aliasStep}
-use Rattle.header_payload.proofs.LaidLaws.{Laid, laid-none, laid-more}
-use Rattle.header_payload.proofs.KeptLaws.{kept-rows, kept-refused}
+use Rattle.header_lists.proofs.LaidLaws.{Laid, laid-none, laid-more}
+use Rattle.header_lists.proofs.KeptLaws.{kept-rows, kept-refused}
 use borrow.Author.Needs.{needs}
-use Rattle.header_payload.proofs.lists.scan_aliases.Statement.{statement}
-use Rattle.header_payload.proofs.lists.scan_aliases.Tie as tie
+use Rattle.header_lists.proofs.scan_aliases.Statement.{statement}
+use Rattle.header_lists.proofs.scan_aliases.Tie as tie
 
 abbrev Inv-loop : tie.InvT-loop
 Inv-loop s strict list flags columns rows₀ count i₀ at₀ rows i at = (m : Reached list (λ _. recordOf strict (alias flags columns)) count s at₀ i at) × Laid aliasWidth aliasWords (m .done) rows₀ rows

@@ -9,7 +9,7 @@ use lib.ListN.{length, take, drop, set, replicate, replicate-append-replicate, l
 use lib.Seq.{take-suc-set}
 use Rattle.numbers.specs.Rows.{put, flat, over}
 use Rattle.rows.proofs.TableLaws.{over-put}
-use Rattle.header_payload.specs.Kept.{laid}
+use Rattle.header_lists.specs.Kept.{laid}
 
 -- a table is as long as it was
 pub over-long : (words old : List ℕ) → length words ≤ length old → length (over words old) ≡ length old
