@@ -1,13 +1,13 @@
 -- Lists whose elements are all below a bound.
 -- Assumes nothing.
-use mathlib.Core.Path.{_≡_, refl, sym, ap, _∙_}
+use mathlib.Core.Path.{_≡_, refl, sym, ap, ap₂, _∙_}
 use mathlib.Core.List.{List, [], _∷_, _++_, map}
 use mathlib.Core.Bool.{Bool, true, false}
-use Prim.Native.Nat.{ℕ, zero, suc, _+_, _^_, _<_, _≤_}
+use Prim.Native.Nat.{ℕ, zero, suc, _+_, _^_, _<_}
 use native.Mathlib.Nat.{not-suc-le-zero, le-of-suc-le-suc}
 use native.Mathlib.Omega.{arith}
-use lib.ListN.{length, take, drop, getD, drop-of-length-le}
-use lib.Seq.{drop-cons}
+use lib.ListN.{length, take, drop, getD, length-drop}
+use lib.Seq.{take-add, take-suc, getD-drop}
 use native.Mathlib.Numerals.{add-one}
 use lib.Dec.{ltb}
 use borrow.Author.Tests.{ltb-true, ltb-false, lt-ltb, le-ltb}
@@ -15,7 +15,7 @@ use lib.Bits.{bitOr, or-lt, or-add-and, and-le-l, and-le-r}
 use Rattle.numbers.specs.Choice.{both}
 use Rattle.numbers.proofs.Choice.{both-true, both-right}
 use Rattle.coding.specs.Inverses.{Below}
-use Rattle.coding.specs.Layout.{fit}
+use Rattle.coding.specs.Layout.{fit, FitsAs}
 
 pub below-take : (m n : ℕ) (xs : List ℕ) → Below m xs → Below m (take n xs)
 below-take m zero xs h = tt
@@ -58,22 +58,13 @@ unfolding fit
 below-fit w [] h = refl
 below-fit w (x ∷ xs) h = simp (lt-ltb x (2 ^ w) (h .0)) (below-fit w xs (h .1))
 
--- a turn of the loop that tests whether all fit
-pub fit-step : (w i : ℕ) (xs : List ℕ) → i < length xs → fit w (drop i xs) ≡ both (ltb (getD xs i 0) (2 ^ w)) (fit w (drop (i + 1) xs))
-unfolding fit
-fit-step w i xs h = ap (fit w) (drop-cons xs i 0 h) ∙ ap (λ (n : ℕ). both (ltb (getD xs i 0) (2 ^ w)) (fit w (drop n xs))) (sym (add-one i))
-
-pub fit-end : (w i : ℕ) (xs : List ℕ) → length xs ≤ i → true ≡ fit w (drop i xs)
-unfolding fit
-fit-end w i xs h = sym (ap (fit w) (drop-of-length-le xs h))
-
 -- any place, past the end too
 pub below-any : (m : ℕ) (xs : List ℕ) → 0 < m → Below m xs → (i : ℕ) → getD xs i 0 < m
 below-any m [] z h i = z
 below-any m (x ∷ xs) z h zero = h .0
 below-any m (x ∷ xs) z h (suc i) = below-any m xs z (h .1) i
 
--- the loop that joins all words' bits: they fit if the joined ones do
+-- bits joined word after word: they fit just where each of the words does
 
 or-fits : (w a b : ℕ) → ltb (bitOr a b) (2 ^ w) ≡ both (ltb a (2 ^ w)) (ltb b (2 ^ w))
 or-fits w a b = go (ltb a (2 ^ w)) refl (ltb b (2 ^ w)) refl
@@ -91,21 +82,33 @@ or-fits w a b = go (ltb a (2 ^ w)) refl (ltb b (2 ^ w)) refl
         let l = and-le-r a b in
         le-ltb (bitOr a b) (2 ^ w) (omega arith)
 
-both-assoc : (a b c : Bool) → both a (both b c) ≡ both (both a b) c
-both-assoc true b c = refl
-both-assoc false b c = refl
+fit-append : (w : ℕ) (xs ys : List ℕ) → both (fit w xs) (fit w ys) ≡ fit w (xs ++ ys)
+unfolding fit
+fit-append w [] ys = refl
+fit-append w (x ∷ xs) ys = both-assoc (ltb x (2 ^ w)) (fit w xs) (fit w ys) ∙ ap (both (ltb x (2 ^ w))) (fit-append w xs ys)
+  where
+    both-assoc : (a b c : Bool) → both (both a b) c ≡ both a (both b c)
+    both-assoc true b c = refl
+    both-assoc false b c = refl
 
-abbrev pub Joined : ℕ → List ℕ → ℕ → ℕ → Type 0
-Joined w xs all i = fit w xs ≡ both (ltb all (2 ^ w)) (fit w (drop i xs))
+pub joined-none : FitsAs 0 []
+unfolding fit
+joined-none w = lt-ltb 0 (2 ^ w) (lib.Pow.pow-pos w)
 
-pub joined-none : (w : ℕ) (xs : List ℕ) → Joined w xs 0 0
-joined-none w xs = ap (λ (b : Bool). both b (fit w xs)) (sym (lt-ltb 0 (2 ^ w) (lib.Pow.pow-pos w)))
+joined-one : (x : ℕ) → FitsAs x (x ∷ [])
+unfolding fit
+joined-one x w = sym (both-right (ltb x (2 ^ w)))
 
-pub joined-next : (w all i : ℕ) (xs : List ℕ) → i < length xs → Joined w xs all i → Joined w xs (bitOr all (getD xs i 0)) (i + 1)
-joined-next w all i xs h j =
-    j ∙ ap (both (ltb all (2 ^ w))) (fit-step w i xs h) ∙ both-assoc (ltb all (2 ^ w)) (ltb (getD xs i 0) (2 ^ w)) (fit w (drop (i + 1) xs))
-    ∙ ap (λ (b : Bool). both b (fit w (drop (i + 1) xs))) (sym (or-fits w all (getD xs i 0)))
+joined-append : (a b : ℕ) (xs ys : List ℕ) → FitsAs a xs → FitsAs b ys → FitsAs (bitOr a b) (xs ++ ys)
+joined-append a b xs ys h g w = or-fits w a b ∙ ap₂ both (h w) (g w) ∙ fit-append w xs ys
 
-pub joined-all : (w all i : ℕ) (xs : List ℕ) → length xs ≤ i → Joined w xs all i → ltb all (2 ^ w) ≡ fit w xs
-joined-all w all i xs h j =
-    sym (j ∙ ap (both (ltb all (2 ^ w))) (sym (fit-end w i xs h)) ∙ both-right (ltb all (2 ^ w)))
+-- with one word more, from a place on
+pub joined-next : (from i a : ℕ) (xs : List ℕ) → from + i < length xs → FitsAs a (take i (drop from xs)) → FitsAs (bitOr a (getD xs (from + i) 0)) (take (i + 1) (drop from xs))
+joined-next from i a xs l h =
+    let x = getD (drop from xs) i 0 in
+    let more = joined-append a x (take i (drop from xs)) (x ∷ []) h (joined-one x) in
+    rw (sym (getD-drop from xs i 0)) (rw (add-one i) (rw (take-suc (drop from xs) i 0 (omega (arith, length-drop from xs))) more))
+
+-- those of the first i, with those of the k behind them
+pub joined-more : (i k j a b : ℕ) (xs : List ℕ) → j ≡ i + k → FitsAs a (take i xs) → FitsAs b (take k (drop i xs)) → FitsAs (bitOr a b) (take j xs)
+joined-more i k j a b xs e h g = rw e (rw (take-add i k xs) (joined-append a b (take i xs) (take k (drop i xs)) h g))

@@ -7,7 +7,7 @@ use native.Mathlib.Nat.{not-suc-le-zero, le-of-suc-le-suc, pow-succ', div-div-eq
 use native.Mathlib.Omega.{arith}
 use lib.Dec.{lit<, ltb}
 use lib.Pow.{pow-mono}
-use lib.ListN.{length, take, drop, getD, List·getD-append, List·getD-eq-default, drop-of-length-le}
+use lib.ListN.{length, take, drop, getD, List·getD-append, length-drop}
 use lib.Seq.{drop-cons, getD-drop, getD-take, ext-getD, length-take-le}
 use borrow.Author.Tests.{ltb-true, ltb-false}
 use mathlib.Core.Bool.{Bool, true, false}
@@ -162,41 +162,42 @@ packed-unpacked n m bs e room h clear =
         ∙ byte-of-bits 8 (n - 8 * j) 0 j bs (omega arith) (omega arith) (omega arith)
         ∙ one ∙ sym (getD-take m bs j 0 lj)
 
--- a byte of eight bits, read from its last bit to its first
+-- the byte of n elements, read from the last to the first
 
-byte-from : (k p : ℕ) (xs : List ℕ) → bitsByte (suc k) (drop p xs) ≡ getD xs p 0 + 2 * bitsByte k (drop (p + 1) xs)
+byte-from : (k p : ℕ) (xs : List ℕ) → p < length xs → bitsByte (suc k) (drop p xs) ≡ getD xs p 0 + 2 * bitsByte k (drop (p + 1) xs)
 unfolding bitsByte
-byte-from k p xs = go (ltb p (length xs)) refl
-  where
-    none : (k : ℕ) → bitsByte k [] ≡ 0
-    none zero = refl
-    none (suc k) = refl
+byte-from k p xs l =
+    ap (bitsByte (suc k)) (drop-cons xs p 0 l) ∙ ap (λ (n : ℕ). getD xs p 0 + 2 * bitsByte k (drop n xs)) (sym (native.Mathlib.Numerals.add-one p))
 
-    go : (b : Bool) → ltb p (length xs) ≡ b → bitsByte (suc k) (drop p xs) ≡ getD xs p 0 + 2 * bitsByte k (drop (p + 1) xs)
-    go true e =
-        let l = ltb-true p (length xs) e in
-        ap (bitsByte (suc k)) (drop-cons xs p 0 l) ∙ ap (λ (n : ℕ). getD xs p 0 + 2 * bitsByte k (drop n xs)) (sym (native.Mathlib.Numerals.add-one p))
-    go false e =
-        let l = ltb-false p (length xs) e in
-        let g : getD xs p 0 ≡ 0 = List·getD-eq-default xs 0 l in
-        let t : bitsByte k (drop (p + 1) xs) ≡ 0 = ap (bitsByte k) (drop-of-length-le xs {i = p + 1} (omega arith)) ∙ none k in
-        ap (bitsByte (suc k)) (drop-of-length-le xs l) ∙ omega arith
-
-pub bits-turn : (j from : ℕ) (xs : List ℕ) → 0 < j → j ≤ 8
-    → bitsByte (8 - j) (drop (from + j) xs) * 2 + getD xs (from + (j - 1)) 0 ≡ bitsByte (8 - (j - 1)) (drop (from + (j - 1)) xs)
-bits-turn zero from xs l h = absurd (not-suc-le-zero l)
-bits-turn (suc i) from xs l h =
-    let e : 8 - (suc i - 1) ≡ suc (8 - suc i) = omega arith in
+pub bits-turn : (n j from : ℕ) (xs : List ℕ) → 0 < j → j ≤ n → from + n ≤ length xs
+    → bitsByte (n - j) (drop (from + j) xs) * 2 + getD xs (from + (j - 1)) 0 ≡ bitsByte (n - (j - 1)) (drop (from + (j - 1)) xs)
+bits-turn n zero from xs l h r = absurd (not-suc-le-zero l)
+bits-turn n (suc i) from xs l h r =
+    let e : n - (suc i - 1) ≡ suc (n - suc i) = omega arith in
     let p : suc i - 1 ≡ i = omega arith in
     let q : from + suc i ≡ from + i + 1 = omega arith in
-    let b = byte-from (8 - suc i) (from + i) xs in
+    let b = byte-from (n - suc i) (from + i) xs (omega arith) in
     rw (e, p, q) (omega arith)
 
-pub bits-below : (j x b : ℕ) → 0 < j → j ≤ 8 → x < 2 ^ (8 - j) → b < 2 → x * 2 + b < 2 ^ (8 - (j - 1))
-bits-below j x b l h hx hb =
-    let e : 8 - (j - 1) ≡ suc (8 - j) = omega arith in
-    let p = pow-succ' 2 (8 - j) in
+pub bits-below : (n j x b : ℕ) → 0 < j → j ≤ n → x < 2 ^ (n - j) → b < 2 → x * 2 + b < 2 ^ (n - (j - 1))
+bits-below n j x b l h hx hb =
+    let e : n - (j - 1) ≡ suc (n - j) = omega arith in
+    let p = pow-succ' 2 (n - j) in
     rw e (omega arith)
 
-pub bits-small : (j x : ℕ) → x < 2 ^ (8 - j) → x < 256
-bits-small j x h = native.Mathlib.Nat.lt-of-lt-of-le h (lib.Pow.pow-mono {j = 8} (omega arith))
+pub bits-small : (n j x : ℕ) → n ≤ 8 → x < 2 ^ (n - j) → x < 256
+bits-small n j x l h = native.Mathlib.Nat.lt-of-lt-of-le h (lib.Pow.pow-mono {j = 8} (omega arith))
+
+-- of fewer elements than it has bits, a byte has as many bits as there are elements
+
+bits-few : (k : ℕ) (xs : List ℕ) → length xs ≤ k → bitsByte (length xs) xs ≡ bitsByte k xs
+unfolding bitsByte
+bits-few zero [] h = refl
+bits-few (suc k) [] h = refl
+bits-few zero (x ∷ xs) h = absurd (not-suc-le-zero h)
+bits-few (suc k) (x ∷ xs) h = ap (λ (b : ℕ). x + 2 * b) (bits-few k xs (le-of-suc-le-suc h))
+
+pub last-byte : (from n : ℕ) (xs : List ℕ) → from + n ≡ length xs → n ≤ 8 → bitsByte n (drop from xs) ≡ bitsByte 8 (drop from xs)
+last-byte from n xs e h =
+    let l : length (drop from xs) ≡ n = simp length-drop (omega arith) in
+    ap (λ (k : ℕ). bitsByte k (drop from xs)) (sym l) ∙ bits-few 8 (drop from xs) (omega arith)

@@ -2,12 +2,15 @@
 -- Assumes nothing.
 use mathlib.Core.Path.{_≡_, refl, sym, ap, ap₂, _∙_, subst}
 use mathlib.Core.List.{List, [], _∷_, _++_, append-assoc}
-use Prim.Native.Nat.{ℕ, zero, suc, _+_, _*_, _/_, _%_, _^_, _<_, _≤_}
-use native.Mathlib.Nat.{not-suc-le-zero, le-of-suc-le-suc, suc-mul, zero-mul, mul-le-mul-right}
+use Prim.Native.Nat.{ℕ, zero, suc, _+_, _*_, _-_, _/_, _%_, _^_, _<_, _≤_}
+use native.Mathlib.Nat.{not-suc-le-zero, le-of-suc-le-suc, suc-mul, zero-mul, add-mul, mul-le-mul-right}
 use native.Mathlib.Omega.{arith}
 use lib.ListN.{length, take, drop, getD, length-drop, length-append}
-use lib.Seq.{drop-at, take-add, getD-drop, getD-take, ext-getD}
+use lib.Seq.{take-at, drop-at, drop-drop, take-add, getD-drop, getD-take, ext-getD, length-take-le}
 use Rattle.numbers.specs.Numbers.{little}
+use Rattle.numbers.specs.Rows.{over}
+use Rattle.numbers.proofs.Parts.{rest-of, put-rest}
+use borrow.Rule.Slice.PartMut.{putMid}
 use Rattle.coding.specs.Layout.{bytesOf, plain, unplain}
 use Rattle.coding.specs.Inverses.{Below}
 use Rattle.coding.proofs.Below.{below-drop}
@@ -133,3 +136,42 @@ unplain-take k n size bs h =
     (λ i l.
     let li : i < n = subst (λ (m : ℕ). i < m) (length-unplain k n (take size bs)) l in
     getD-unplain k n (take size bs) i li ∙ little-take k (i * k) size bs (omega (arith, plain-place k n i li)) ∙ sym (getD-unplain k n bs i li))
+
+-- a page written part after part
+
+plain-append : (k : ℕ) (xs ys : List ℕ) → plain k (xs ++ ys) ≡ plain k xs ++ plain k ys
+unfolding plain
+plain-append k [] ys = refl
+plain-append k (x ∷ xs) ys = ap (λ (l : List ℕ). bytesOf k x ++ l) (plain-append k xs ys) ∙ sym (append-assoc (bytesOf k x) (plain k xs) (plain k ys))
+
+over-more : (n : ℕ) (a b d : List ℕ) → length a ≡ n → take n (over a d) ++ over b (drop n (over a d)) ≡ over (a ++ b) d
+over-more n a b d e =
+    ap₂ (λ (u v : List ℕ). u ++ over b v) (take-at a (drop (length a) d) n e) (drop-at a (drop (length a) d) n e)
+    ∙ ap (λ (l : List ℕ). a ++ (b ++ l)) (drop-drop (length b) (length a) d ∙ ap (λ (m : ℕ). drop m d) (sym (length-append a b)))
+    ∙ sym (append-assoc a b (drop (length (a ++ b)) d))
+
+-- n elements more, behind those of the first i
+plain-more : (k i n : ℕ) (xs d o : List ℕ) → i ≤ length xs → o ≡ over (plain k (take i xs)) d
+    → take (i * k) o ++ over (plain k (take n (drop i xs))) (drop (i * k) o) ≡ over (plain k (take (i + n) xs)) d
+plain-more k i n xs d o l e =
+    let long : length (plain k (take i xs)) ≡ i * k = length-plain k (take i xs) ∙ ap (λ (m : ℕ). m * k) (length-take-le i xs l) in
+    rw (e, take-add i n xs, plain-append k (take i xs) (take n (drop i xs)))
+    (over-more (i * k) (plain k (take i xs)) (plain k (take n (drop i xs))) d long)
+
+pub plain-room : (k i n m : ℕ) → i + n ≤ m → i * k + n * k ≤ m * k
+plain-room k i n m h = subst (λ (p : ℕ). p ≤ m * k) (add-mul i n k) (mul-le-mul-right k h)
+
+-- such a part, as it is lent and put back
+
+pub plain-part : (k i n : ℕ) (xs d q o r : List ℕ) → i ≤ length xs → q ≡ take n (drop i xs) → o ≡ over (plain k (take i xs)) d
+    → r ≡ over (plain k q) (take (length o - i * k) (drop (i * k) o)) → putMid (i * k) (length o - i * k) o r ≡ over (plain k (take (i + n) xs)) d
+plain-part k i n xs d q o r l p h e =
+    put-rest (i * k) o r
+    ∙ ap (λ (b : List ℕ). take (i * k) o ++ b) (e ∙ ap₂ (λ (u v : List ℕ). over (plain k u) v) p (rest-of (i * k) o))
+    ∙ plain-more k i n xs d o l h
+
+pub plain-fits : (k i n : ℕ) (xs q o : List ℕ) → i + n ≤ length xs → q ≡ take n (drop i xs) → length xs * k ≤ length o
+    → length q * k ≤ length (take (length o - i * k) (drop (i * k) o))
+plain-fits k i n xs q o h p e =
+    let long : length q ≡ n = ap length p ∙ length-take-le n (drop i xs) (omega (arith, length-drop i xs)) in
+    rw (long, rest-of (i * k) o) (omega (arith, plain-room k i n (length xs) h, length-drop (i * k) o))

@@ -104,3 +104,7 @@ largest w = pick (ltb w 64) (2 ^ w - 1) (2 ^ 64 - 1)
 unfoldable pub fit : ℕ → List ℕ → Bool
 fit w [] = true
 fit w (x ∷ xs) = both (ltb x (2 ^ w)) (fit w xs)
+
+-- a number that fits the widths that each of these fits, and no others, as the bits of all of them do
+abbrev pub FitsAs : ℕ → List ℕ → Type 0
+FitsAs x xs = (w : ℕ) → ltb x (2 ^ w) ≡ fit w xs

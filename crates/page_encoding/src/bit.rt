@@ -1,27 +1,21 @@
 // Bit pages: eight elements to a byte, from the least significant bit.
 ghost use mathlib.Core.Path.{_≡_};
 ghost use mathlib.Core.Bool.{true};
-ghost use Prim.Native.Nat.{ℕ, _+_, _*_, _/_, _≤_};
-ghost use lib.ListN.{length, drop, getD};
+ghost use Prim.Native.Nat.{ℕ, _+_, _/_, _≤_};
+ghost use lib.ListN.{length, drop};
 ghost use Rattle.numbers.specs.Rows.{over};
-ghost use Rattle.coding.specs.Layout.{bitsByte, packed, unpacked, fit};
+ghost use Rattle.coding.specs.Layout.{bitsByte, packed, fit};
 
-fn word_or_zero(words: &[u64], i: usize) -> u64
-    ensures { λ r. ⌜ r ≡ getD (now (words .entry)) i 0 ⌝ }
-{
-    if i < words.len() { words[i] } else { 0 }
-}
-
-// The byte of eight elements, those from `from` on.
-fn eight_bits(words: &[u64], from: usize) -> u8
-    requires { ⌜ (from ≤ length (now words)) × (length (now words) ≤ 131072) × (fit 1 (now words) ≡ true) ⌝ }
-    ensures { λ r. ⌜ r ≡ bitsByte 8 (drop from (now (words .entry))) ⌝ }
+// The byte of so many elements from a place on. Called with eight as a literal for whole bytes: the compiler writes the loop out.
+fn bits_byte(words: &[u64], from: usize, count: usize) -> u8
+    requires { ⌜ (from + count ≤ length (now words)) × (count ≤ 8) × (fit 1 (now words) ≡ true) ⌝ }
+    ensures { λ r. ⌜ r ≡ bitsByte count (drop from (now (words .entry))) ⌝ }
 {
     let mut x: u64 = 0;
-    let mut j: usize = 8;
+    let mut j = count;
     while 0 < j {
         j -= 1;
-        x = x * 2 + word_or_zero(words, from + j);
+        x = x * 2 + words[from + j];
     }
     x as u8
 }
@@ -31,10 +25,14 @@ pub fn pack(words: &[u64], out: &mut [u8])
     requires { ⌜ (length (now words) ≤ 131072) × (fit 1 (now words) ≡ true) × ((length (now words) + 7) / 8 ≤ length (now out)) ⌝ }
     ensures { λ _. ⌜ now (out .exit) ≡ over (packed ((length (now (words .entry)) + 7) / 8) (now (words .entry))) (now (out .entry)) ⌝ }
 {
-    let size = (words.len() + 7) / 8;
+    let whole = words.len() / 8;
     let mut m = 0;
-    while m < size {
-        out[m] = eight_bits(words, 8 * m);
+    while m < whole {
+        out[m] = bits_byte(words, 8 * m, 8);
         m += 1;
+    }
+    let rest = words.len() % 8;
+    if 0 < rest {
+        out[whole] = bits_byte(words, 8 * whole, rest);
     }
 }

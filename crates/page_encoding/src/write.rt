@@ -2,7 +2,7 @@
 ghost use mathlib.Core.Path.{_≡_};
 ghost use mathlib.Core.Bool.{Bool, true, false};
 ghost use Prim.Native.Nat.{ℕ, _+_, _*_, _<_, _≤_};
-ghost use lib.ListN.{length, take};
+ghost use lib.ListN.{length, take, drop};
 ghost use Rattle.numbers.specs.Rows.{over};
 ghost use Rattle.checksum.specs.Crc.{crc32};
 ghost use Rattle.column_type.specs.Types.{widthOf};
@@ -12,9 +12,26 @@ ghost use Rattle.coding.specs.Strides.{puts};
 use crate::bit::pack;
 use crate::number::put_number;
 
-// A plain page. Called with k a literal: the compiler makes a loop for each.
-fn write_plain(k: usize, words: &[u64], out: &mut [u8])
-    requires { ⌜ WholeBytes k × (length (now words) * k ≤ length (now out)) ⌝ }
+// The eight elements from a place on.
+fn eight_words(words: &[u64], from: usize) -> [u64; 8]
+    requires { ⌜ from + 8 ≤ length (now words) ⌝ }
+    ensures { λ r. ⌜ r ≡ take 8 (drop from (now (words .entry))) ⌝ }
+{
+    [
+        words[from],
+        words[from + 1],
+        words[from + 2],
+        words[from + 3],
+        words[from + 4],
+        words[from + 5],
+        words[from + 6],
+        words[from + 7],
+    ]
+}
+
+// Elements one after the other.
+fn write_each(k: usize, words: &[u64], out: &mut [u8])
+    requires { ⌜ length (now words) * k ≤ length (now out) ⌝ }
     ensures { λ _. ⌜ now (out .exit) ≡ over (plain k (now (words .entry))) (now (out .entry)) ⌝ }
 {
     let mut i = 0;
@@ -24,19 +41,47 @@ fn write_plain(k: usize, words: &[u64], out: &mut [u8])
     }
 }
 
-fn write_plain_page(k: usize, words: &[u64], out: &mut [u8])
+// The elements of a plain page, eight a turn, as far as that goes: so many. Eight are read before the first of them is stored: the compiler
+// stores them at once, and the time does not hang on where the loop's code lies.
+fn write_eights(k: usize, words: &[u64], out: &mut [u8]) -> usize
+    requires { ⌜ length (now words) * k ≤ length (now out) ⌝ }
+    ensures { λ r. ⌜ (r ≤ length (now (words .entry))) × (now (out .exit) ≡ over (plain k (take r (now (words .entry)))) (now (out .entry))) ⌝ }
+{
+    let mut i = 0;
+    while 8 <= words.len() - i {
+        let eight = eight_words(words, i);
+        let at = i * k;
+        write_each(k, &eight, &mut out[at..]);
+        i += 8;
+    }
+    i
+}
+
+// The same with k a literal: the compiler makes a loop for each. Of elements of one byte it makes no wider stores, and they go one after the other.
+fn write_most(k: usize, words: &[u64], out: &mut [u8]) -> usize
+    requires { ⌜ WholeBytes k × (length (now words) * k ≤ length (now out)) ⌝ }
+    ensures { λ r. ⌜ (r ≤ length (now (words .entry))) × (now (out .exit) ≡ over (plain k (take r (now (words .entry)))) (now (out .entry))) ⌝ }
+{
+    if k == 1 {
+        write_each(1, words, out);
+        words.len()
+    } else if k == 2 {
+        write_eights(2, words, out)
+    } else if k == 4 {
+        write_eights(4, words, out)
+    } else {
+        write_eights(8, words, out)
+    }
+}
+
+// A plain page: most of it, and then the rest.
+fn write_plain(k: usize, words: &[u64], out: &mut [u8])
     requires { ⌜ WholeBytes k × (length (now words) * k ≤ length (now out)) ⌝ }
     ensures { λ _. ⌜ now (out .exit) ≡ over (plain k (now (words .entry))) (now (out .entry)) ⌝ }
 {
-    if k == 1 {
-        write_plain(1, words, out);
-    } else if k == 2 {
-        write_plain(2, words, out);
-    } else if k == 4 {
-        write_plain(4, words, out);
-    } else {
-        write_plain(8, words, out);
-    }
+    let done = write_most(k, words, out);
+    let at = done * k;
+    write_each(k, &words[done..], &mut out[at..]);
 }
 
 // The page of elements that fit, over the first bytes of the lent ones.
@@ -53,7 +98,7 @@ fn write_page(column_type: u64, words: &[u64], out: &mut [u8])
         let zigzag = column_type::is_zigzag(column_type);
         split_pages::write_split(delta, zigzag, width, words, out);
     } else {
-        write_plain_page((width / 8) as usize, words, out);
+        write_plain((width / 8) as usize, words, out);
     }
 }
 

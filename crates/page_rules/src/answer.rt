@@ -2,10 +2,10 @@
 ghost use mathlib.Core.Path.{_≡_};
 ghost use mathlib.Core.Bool.{Bool, true, false};
 ghost use Prim.Native.Nat.{ℕ, _+_, _*_, _-_, _/_, _%_, _^_, _<_, _≤_};
-ghost use lib.ListN.{length};
+ghost use lib.ListN.{length, take, drop};
 ghost use lib.Dec.{leb};
 ghost use Rattle.page_rules.specs.Page.{readable, sizeOf, trailer, unusedClear, checksumRight, outcomeOf, decodeOutcome, encodeOutcome};
-ghost use Rattle.coding.specs.Layout.{fit};
+ghost use Rattle.coding.specs.Layout.{fit, FitsAs};
 use crate::PageAnswer;
 use crate::number::most;
 
@@ -70,18 +70,35 @@ fn has_room(words: usize, start: usize, n: usize) -> bool
     }
 }
 
+// The bits of so many words from a place on.
+fn joined(words: &[u64], from: usize, count: usize) -> u64
+    requires { ⌜ from + count ≤ length (now words) ⌝ }
+    ensures { λ r. ⌜ FitsAs r (take count (drop from (now (words .entry)))) ⌝ }
+{
+    let mut all: u64 = 0;
+    let mut i = 0;
+    while i < count {
+        all = all | words[from + i];
+        i += 1;
+    }
+    all
+}
+
 // Every word is below 2 to the width: the bits of all of them are.
+// Thirty-two words a turn, which the compiler writes out: how long a turn of a few takes depends on where its code happens to lie.
 fn all_fit(width: u64, words: &[u64]) -> bool
     requires { ⌜ width ≤ 64 ⌝ }
     ensures { λ r. ⌜ r ≡ fit width (now (words .entry)) ⌝ }
 {
     let limit = most(width);
+    let groups = words.len() / 32;
     let mut all: u64 = 0;
-    let mut i = 0;
-    while i < words.len() {
-        all = all | words[i];
-        i += 1;
+    let mut g = 0;
+    while g < groups {
+        all = all | joined(words, 32 * g, 32);
+        g += 1;
     }
+    all = all | joined(words, 32 * groups, words.len() % 32);
     all <= limit
 }
 

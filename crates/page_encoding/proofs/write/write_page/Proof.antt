@@ -50,8 +50,8 @@ is-zigzag-requires c κs = search needs
 write-split-requires : tie.Need-write-split-requires
 write-split-requires c κs = search needs
 
-write-plain-page-requires : tie.Need-write-plain-page-requires
-write-plain-page-requires c κs = let s = c .before .before .before .before .before .before .before in
+write-plain-requires : tie.Need-write-plain-requires
+write-plain-requires c κs = let s = c .before .before .before .before .before .before .before in
     let o = of-whole-bytes s (c .before .before .before .if1 .left) in
     let w = c .before .before .before .before .width-of .ensures in
     (subst (λ (x : ℕ). WholeBytes (x / 8)) (sym w) (whole (s .args .column-type) o .bytes), room s (c .before .before .before .if1 .left) (c .before .before .before .before .width-of .result) w)
@@ -90,7 +90,7 @@ returns-3 c = let s = c .before .before .before .before .before .before .before 
     let no-bit = ne-eqb t 6 (c .before .before .before .before .before .before .if1 .left) in
     let h = sym (c .before .before .before .before .before .is-split .ensures) ∙ c .before .before .before .before .if2 .left in
     let marks = of-whole-bytes s (c .before .before .before .before .before .before .if1 .left) .of-plain h in
-    c .before .before .write-plain-page .ensures
+    c .before .before .write-plain .ensures
     ∙ ap (λ (w : ℕ). over (plain (w / 8) xs) (now (s .args .out))) (c .before .before .before .before .before .before .before .width-of .ensures)
     ∙ ap (λ (l : List ℕ). over l (now (s .args .out))) (bytes-plain t xs no-bit h (marks .0) (marks .1))
 
@@ -104,7 +104,7 @@ write-page-spec =
     is-delta-requires
     is-zigzag-requires
     write-split-requires
-    write-plain-page-requires
+    write-plain-requires
     same-length
     returns
     same-length-2

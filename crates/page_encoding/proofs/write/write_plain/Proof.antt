@@ -1,91 +1,88 @@
--- `page_encoding::write::write_plain` meets its contract. Assumes nothing.
-use mathlib.Core.Path.{_≡_, refl, sym, ap, _∙_, subst}
+-- `page_encoding::write::write_plain` meets its contract: most of the page, then the rest. Assumes nothing.
+use mathlib.Core.Path.{_≡_, refl, ap, _∙_}
 use mathlib.Core.List.{List}
-use Prim.Native.Nat.{ℕ, _+_, _*_, _-_, _<_, _≤_}
-use native.Mathlib.Nat.{suc-mul, mul-le-mul-right, zero-mul}
+use Prim.Native.Nat.{ℕ, _+_, _*_, _-_, _≤_}
 use native.Mathlib.Omega.{arith}
-use lib.ListN.{length, getD}
+use lib.ListN.{length, take, drop}
+use lib.Seq.{take-length}
 use denote.Ref.{now}
+use Rattle.numbers.specs.Rows.{over}
 use Rattle.coding.specs.Layout.{plain}
-use Rattle.coding.proofs.Plain.{length-plain}
-use Rattle.planes.proofs.Filling.{Filled, fill-done}
-use Rattle.coding.specs.Strides.{puts}
-use Rattle.coding.proofs.Puts.{fill-puts, plain-byte}
+use Rattle.coding.proofs.Plain.{plain-part, plain-fits, plain-room}
+use borrow.Author.Needs.{needs}
 use Rattle.page_encoding.proofs.write.write_plain.Statement.{statement}
 use Rattle.page_encoding.proofs.write.write_plain.Tie as tie
 
-abbrev Inv-loop : tie.InvT-loop
-Inv-loop k words out₀ i₀ out i = (i ≤ length words) × Filled (plain k words) out₀ (i * k) out
+-- the bytes of the first i elements are within the page
+room : (s : tie.Start) (i : ℕ) → i ≤ length (now (s .args .words)) → i * s .args .k ≤ length (now (s .args .out))
+room s i h = omega (arith, plain-room (s .args .k) i 0 (length (now (s .args .words))) (omega arith), s .pre .1)
 
-abbrev μ-loop : tie.MeasureT-loop
-μ-loop k words out₀ i₀ out i = length words - i
+write-most-requires : tie.Need-write-most-requires
+write-most-requires c κs = search needs
 
--- the bytes of an element are within the page
-within : (k i n : ℕ) → i < n → i * k + k ≤ n * k
-within k i n h = subst (λ (m : ℕ). m ≤ n * k) (suc-mul i k) (mul-le-mul-right k h)
+mul-at : tie.Need-mul-at
+mul-at c = omega (arith, room (c .before .before .before .before .before .before) (c .before .before .write-most .result) (c .before .before .write-most .ensures .0))
 
-loop-holds : tie.Need-loop-holds Inv-loop μ-loop
-loop-holds c = let a = c .before .before .args in
-    (omega arith, subst (λ (m : ℕ). Filled (plain (a .k) (now (a .words))) (now (a .out)) m (now (a .out))) (sym (zero-mul (a .k))) (refl, refl))
+mul-write-each : tie.Need-mul-write-each
+mul-write-each c = search needs
 
-mul-put-number : tie.Need-mul-put-number Inv-loop μ-loop
-mul-put-number c = omega arith
+sub-write-each : tie.Need-sub-write-each
+sub-write-each c = search needs
 
-shared-slice-read-put-number : tie.Need-shared-slice-read-put-number Inv-loop μ-loop
-shared-slice-read-put-number c = omega arith
+part-write-each-start : tie.Need-part-write-each-start
+part-write-each-start c = search needs
 
-mul-put-number-2 : tie.Need-mul-put-number-2 Inv-loop μ-loop
-mul-put-number-2 c = let a = c .before .before .before .before .before .args in
-    omega (arith, within (a .k) (c .before .before .loop .i) (length (now (a .words))) (c .before .loop-test .taken), c .before .before .before .before .before .pre .1)
+part-write-each-end : tie.Need-part-write-each-end
+part-write-each-end c = search needs
 
-put-number-requires : tie.Need-put-number-requires Inv-loop μ-loop
-put-number-requires c κs = let s = c .before .before .before .before .before .before in
-    omega (arith, within (s .args .k) (c .before .before .before .loop .i) (length (now (s .args .words))) (c .before .before .loop-test .taken), s .pre .1, c .before .before .before .loop .inv .1 .1)
+sub-write-each-2 : tie.Need-sub-write-each-2
+sub-write-each-2 c = let m = c .before .before .before .write-most in
+    let a = c .before .before .before .before .before .before .before .args in
+    let long : length (m .last .1 .1 .0) ≡ length (now (a .out)) = search needs in
+    omega (arith, room (c .before .before .before .before .before .before .before) (m .result) (m .ensures .0), long)
 
-add-i : tie.Need-add-i Inv-loop μ-loop
-add-i c = omega arith
+part-write-each-start-2 : tie.Need-part-write-each-start-2
+part-write-each-start-2 c = let m = c .before .before .before .write-most in
+    let a = c .before .before .before .before .before .before .before .args in
+    let long : length (m .last .1 .1 .0) ≡ length (now (a .out)) = search needs in
+    omega (arith, room (c .before .before .before .before .before .before .before) (m .result) (m .ensures .0), long)
 
-loop-less : tie.Need-loop-less Inv-loop μ-loop
-loop-less c = omega arith
+part-write-each-end-2 : tie.Need-part-write-each-end-2
+part-write-each-end-2 c = search needs
 
-loop-again : tie.Need-loop-again Inv-loop μ-loop
-loop-again c = let s = c .before .before .before .before .before .before .before .before .before in
-    let a = s .args in
-    let l = c .before .before .before .before .before .before .loop in
-    let t = c .before .before .before .before .before .loop-test .taken in
-    let xs : List ℕ = now (a .words) in
-    let w = within (a .k) (l .i) (length xs) t in
-    let n = length-plain (a .k) xs in
-    let p = s .pre .1 in
-    let q : l .i * a .k + a .k ≡ (l .i + 1) * a .k = sym (ap (λ (m : ℕ). m * a .k) (native.Mathlib.Numerals.add-one (l .i)) ∙ suc-mul (l .i) (a .k)) in
-    let f = fill-puts (a .k) (plain (a .k) xs) (now (a .out)) (l .out) (l .i * a .k) (getD xs (l .i) 0) (l .inv .1) (omega arith) (omega arith) (λ e h. plain-byte (a .k) xs (l .i) e t h) in
-    let g : Filled (plain (a .k) xs) (now (a .out)) ((l .i + 1) * a .k) (puts (a .k) (getD xs (l .i) 0) (l .i * a .k) (l .out)) =
-    subst (λ (m : ℕ). Filled (plain (a .k) xs) (now (a .out)) m (puts (a .k) (getD xs (l .i) 0) (l .i * a .k) (l .out))) q f in
-    (omega arith, subst (λ (o : List ℕ). Filled (plain (a .k) xs) (now (a .out)) ((l .i + 1) * a .k) o) (sym (c .before .before .put-number .ensures)) g)
+write-each-requires : tie.Need-write-each-requires
+write-each-requires c κs = let s = c .before .before .before .before .before .before .before .before in
+    let m = c .before .before .before .before .write-most in
+    let xs = now (s .args .words) in
+    let n = length xs - m .result in
+    let long : length (m .last .1 .1 .0) ≡ length (now (s .args .out)) = search needs in
+    plain-fits (s .args .k) (m .result) n xs (take n (drop (m .result) xs)) (m .last .1 .1 .0) (omega (arith, m .ensures .0)) refl (omega (arith, s .pre .1, long))
 
-same-length : tie.Need-same-length Inv-loop μ-loop
-same-length c = c .before .loop .inv .1 .1
+same-length : tie.Need-same-length
+same-length c = search needs
 
-returns : tie.Need-returns Inv-loop μ-loop
-returns c = let a = c .before .before .before .before .args in
-    let l = c .before .loop in
-    let xs : List ℕ = now (a .words) in
-    let e : l .i ≡ length xs = omega arith in
-    l .inv .1 .0 ∙ fill-done (plain (a .k) xs) (now (a .out)) (l .i * a .k) (ap (λ (m : ℕ). m * a .k) e ∙ sym (length-plain (a .k) xs))
+returns : tie.Need-returns
+returns c = let a = c .before .before .before .before .before .before .before .before .before .before .before .args in
+    let m = c .before .before .before .before .before .before .before .write-most in
+    let xs = now (a .words) in
+    let n = length xs - m .result in
+    let all : m .result + n ≡ length xs = omega (arith, m .ensures .0) in
+    plain-part (a .k) (m .result) n xs (now (a .out)) (take n (drop (m .result) xs)) (m .last .1 .1 .0) _ (m .ensures .0) refl (m .ensures .1) (c .before .before .write-each .ensures)
+    ∙ ap (λ (ys : List ℕ). over (plain (a .k) ys) (now (a .out))) (ap (λ (i : ℕ). take i xs) all ∙ take-length xs)
 
 pub write-plain-spec : {M : Type 1} → statement M
 write-plain-spec =
     tie.close
     (tie.spec
-    Inv-loop
-    μ-loop
-    loop-holds
-    mul-put-number
-    shared-slice-read-put-number
-    mul-put-number-2
-    put-number-requires
-    add-i
-    loop-less
-    loop-again
+    write-most-requires
+    mul-at
+    mul-write-each
+    sub-write-each
+    part-write-each-start
+    part-write-each-end
+    sub-write-each-2
+    part-write-each-start-2
+    part-write-each-end-2
+    write-each-requires
     same-length
     returns)
