@@ -17,7 +17,7 @@ use Rattle.coding.specs.Layout.{DeltaWidth, SplitWidth, deltas, zigzagged, plan
 use Rattle.coding.specs.Inverses.{Below}
 use Rattle.coding.proofs.Below.{fit-below}
 use Rattle.split_pages.specs.Turn.{Widths}
-use Rattle.split_pages.specs.Split.{codeOf, codes, splits, splitInto}
+use Rattle.split_pages.specs.Split.{elementCode, codes, splits, splitInto}
 
 module _ (d z : Bool) (w : ℕ) where
   pub length-codes : (b : ℕ) (xs : List ℕ) → length (codes d z w b xs) ≡ length xs
@@ -25,13 +25,13 @@ module _ (d z : Bool) (w : ℕ) where
   length-codes b [] = refl
   length-codes b (x ∷ xs) = ap suc (length-codes x xs)
 
-  pub code-first : (b : ℕ) (xs : List ℕ) (i : ℕ) → i ≡ 0 → i < length xs → codeOf d z w b (getD xs i 0) ≡ getD (codes d z w b xs) i 0
+  pub code-first : (b : ℕ) (xs : List ℕ) (i : ℕ) → i ≡ 0 → i < length xs → elementCode d z w b (getD xs i 0) ≡ getD (codes d z w b xs) i 0
   unfolding codes
   code-first b [] i e h = absurd (not-suc-le-zero h)
   code-first b (x ∷ xs) zero e h = refl
   code-first b (x ∷ xs) (suc i) e h = absurd (omega arith)
 
-  pub code-later : (b : ℕ) (xs : List ℕ) (i : ℕ) → suc i < length xs → codeOf d z w (getD xs i 0) (getD xs (suc i) 0) ≡ getD (codes d z w b xs) (suc i) 0
+  pub code-later : (b : ℕ) (xs : List ℕ) (i : ℕ) → suc i < length xs → elementCode d z w (getD xs i 0) (getD xs (suc i) 0) ≡ getD (codes d z w b xs) (suc i) 0
   unfolding codes
   code-later b [] i h = absurd (not-suc-le-zero h)
   code-later b (x ∷ []) i h = absurd (not-suc-le-zero (le-of-suc-le-suc h))
@@ -44,19 +44,19 @@ module _ (z : Bool) (w : ℕ) (xs : List ℕ) where
   pub delta-first : (d : Bool) (i : ℕ) → d ≡ true → i ≡ 0 → i < length xs
       → (getD xs i 0 % 2 ^ w + 2 ^ w - 0 % 2 ^ w) % 2 ^ w ≡ getD (codes d z w 0 xs) i 0
   delta-first d i e f h =
-      ap (λ (b : Bool). codeOf b z w 0 (getD xs i 0)) (sym e) ∙ code-first d z w 0 xs i f h
+      ap (λ (b : Bool). elementCode b z w 0 (getD xs i 0)) (sym e) ∙ code-first d z w 0 xs i f h
 
   pub delta-later : (d : Bool) (i : ℕ) → d ≡ true → (i ≡ 0 → ⊥) → i < length xs
       → (getD xs i 0 % 2 ^ w + 2 ^ w - getD xs (i - 1) 0 % 2 ^ w) % 2 ^ w ≡ getD (codes d z w 0 xs) i 0
   delta-later d zero e f h = absurd (f refl)
   delta-later d (suc i) e f h =
       let p : suc i - 1 ≡ i = omega arith in
-      ap₂ (λ (b : Bool) (j : ℕ). codeOf b z w (getD xs j 0) (getD xs (suc i) 0)) (sym e) p ∙ code-later d z w 0 xs i h
+      ap₂ (λ (b : Bool) (j : ℕ). elementCode b z w (getD xs j 0) (getD xs (suc i) 0)) (sym e) p ∙ code-later d z w 0 xs i h
 
 -- without delta, whatever stands before
 module _ (w : ℕ) where
   pub without-delta : (d z : Bool) (b c : ℕ) (xs : List ℕ) (i : ℕ) → d ≡ false → i < length xs
-      → codeOf d z w c (getD xs i 0) ≡ getD (codes d z w b xs) i 0
+      → elementCode d z w c (getD xs i 0) ≡ getD (codes d z w b xs) i 0
   unfolding codes
   without-delta d z b c [] i e h = absurd (not-suc-le-zero h)
   without-delta true z b c (x ∷ xs) i e h = absurd (false≢true (sym e))
@@ -66,12 +66,12 @@ module _ (w : ℕ) where
 pub zigzag-place : (d z : Bool) (w : ℕ) (xs : List ℕ) (i : ℕ) → d ≡ false → z ≡ true → i < length xs
     → zigzagged w (getD xs i 0 % 2 ^ w) ≡ getD (codes d z w 0 xs) i 0
 zigzag-place d z w xs i e f h =
-    ap₂ (λ (a b : Bool). codeOf a b w 0 (getD xs i 0)) (sym e) (sym f) ∙ without-delta w d z 0 0 xs i e h
+    ap₂ (λ (a b : Bool). elementCode a b w 0 (getD xs i 0)) (sym e) (sym f) ∙ without-delta w d z 0 0 xs i e h
 
 pub same-place : (d z : Bool) (w : ℕ) (xs : List ℕ) (i : ℕ) → d ≡ false → z ≡ false → i < length xs
     → getD xs i 0 ≡ getD (codes d z w 0 xs) i 0
 same-place d z w xs i e f h =
-    ap₂ (λ (a b : Bool). codeOf a b w 0 (getD xs i 0)) (sym e) (sym f) ∙ without-delta w d z 0 0 xs i e h
+    ap₂ (λ (a b : Bool). elementCode a b w 0 (getD xs i 0)) (sym e) (sym f) ∙ without-delta w d z 0 0 xs i e h
 
 -- elements that fit
 

@@ -9,13 +9,13 @@ use Rattle.numbers.specs.Rows.{over}
 use Rattle.coding.specs.Layout.{zigzagged, planes}
 
 -- the number that is stored for an element: its difference from the one before, its zigzag form, or itself
-abbrev pub codeOf : Bool → Bool → ℕ → ℕ → ℕ → ℕ
-codeOf isDelta isZigzag w before x =
+abbrev pub elementCode : Bool → Bool → ℕ → ℕ → ℕ → ℕ
+elementCode isDelta isZigzag w before x =
     pick isDelta ((x % 2 ^ w + 2 ^ w - before % 2 ^ w) % 2 ^ w) (pick isZigzag (zigzagged w (x % 2 ^ w)) x)
 
 unfoldable pub codes : Bool → Bool → ℕ → ℕ → List ℕ → List ℕ
 codes isDelta isZigzag w before [] = []
-codes isDelta isZigzag w before (x ∷ xs) = codeOf isDelta isZigzag w before x ∷ codes isDelta isZigzag w x xs
+codes isDelta isZigzag w before (x ∷ xs) = elementCode isDelta isZigzag w before x ∷ codes isDelta isZigzag w x xs
 
 -- whether elements of a width are split: of 16 bits without delta, of 32 and 64
 abbrev pub splits : Bool → ℕ → Bool
