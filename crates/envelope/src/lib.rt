@@ -21,11 +21,14 @@ pub enum OpenStep {
     Refused(Fault),
 }
 
+// The most bytes that an envelope may have.
+const MOST_BYTES: usize = 1048576;
+
 // The checks on an envelope before its payload; `supported` is the highest minimum version that is read.
 pub fn open_envelope(e: &[u8], supported: u64) -> OpenStep
     ensures { λ r. ⌜ openStep r ≡ opened supported (now (e .entry)) ⌝ }
 {
-    if 1048576 < e.len() {
+    if MOST_BYTES < e.len() {
         return OpenStep::Refused(wire::fault_at(1, Kind::Envelope, 0));
     }
     if e.len() < 8 {

@@ -5,6 +5,7 @@ ghost use Prim.Native.Nat.{ℕ, _+_, _/_, _≤_};
 ghost use lib.ListN.{length, drop};
 ghost use Rattle.numbers.specs.Rows.{over};
 ghost use Rattle.coding.specs.Layout.{bitsByte, packed, fit};
+ghost use Rattle.page_rules.specs.Page.{mostElements};
 
 // The byte of so many elements from a place on. Called with eight as a literal for whole bytes: the compiler writes the loop out.
 fn bits_byte(words: &[u64], from: usize, count: usize) -> u8
@@ -22,7 +23,7 @@ fn bits_byte(words: &[u64], from: usize, count: usize) -> u8
 
 // The bytes of the elements.
 pub fn pack(words: &[u64], out: &mut [u8])
-    requires { ⌜ (length (now words) ≤ 131072) × (fit 1 (now words) ≡ true) × ((length (now words) + 7) / 8 ≤ length (now out)) ⌝ }
+    requires { ⌜ (length (now words) ≤ mostElements) × (fit 1 (now words) ≡ true) × ((length (now words) + 7) / 8 ≤ length (now out)) ⌝ }
     ensures { λ _. ⌜ now (out .exit) ≡ over (packed ((length (now (words .entry)) + 7) / 8) (now (words .entry))) (now (out .entry)) ⌝ }
 {
     let whole = words.len() / 8;

@@ -7,7 +7,7 @@ ghost use Rattle.numbers.specs.Rows.{over};
 ghost use Rattle.checksum.specs.Crc.{crc32};
 ghost use Rattle.column_type.specs.Types.{widthOf};
 ghost use Rattle.coding.specs.Layout.{WholeBytes, plain, fit};
-ghost use Rattle.page_rules.specs.Page.{readable, sizeOf, trailer, bytes, checkedPage};
+ghost use Rattle.page_rules.specs.Page.{readable, mostElements, sizeOf, trailer, bytes, checkedPage};
 ghost use Rattle.coding.specs.Strides.{puts};
 use crate::bit::pack;
 use crate::number::put_number;
@@ -86,7 +86,7 @@ fn write_plain(k: usize, words: &[u64], out: &mut [u8])
 
 // The page of elements that fit, over the first bytes of the lent ones.
 fn write_page(column_type: u64, words: &[u64], out: &mut [u8])
-    requires { ⌜ (readable «column_type» ≡ true) × (length (now words) ≤ 131072) × (fit (widthOf «column_type») (now words) ≡ true)
+    requires { ⌜ (readable «column_type» ≡ true) × (length (now words) ≤ mostElements) × (fit (widthOf «column_type») (now words) ≡ true)
         × (sizeOf «column_type» (length (now words)) ≤ length (now out)) ⌝ }
     ensures { λ _. ⌜ now (out .exit) ≡ over (bytes «column_type» (now (words .entry))) (now (out .entry)) ⌝ }
 {
@@ -113,7 +113,7 @@ fn add_checksum(size: usize, out: &mut [u8])
 
 // The page of elements that fit, with its checksum where one is asked for: so many bytes in all.
 pub fn write_checked(column_type: u64, checksum: bool, size: usize, words: &[u64], out: &mut [u8])
-    requires { ⌜ (readable «column_type» ≡ true) × (length (now words) ≤ 131072) × (fit (widthOf «column_type») (now words) ≡ true)
+    requires { ⌜ (readable «column_type» ≡ true) × (length (now words) ≤ mostElements) × (fit (widthOf «column_type») (now words) ≡ true)
         × (size ≡ sizeOf «column_type» (length (now words)) + trailer checksum) × (size ≤ length (now out)) ⌝ }
     ensures { λ _. ⌜ now (out .exit) ≡ over (checkedPage checksum (bytes «column_type» (now (words .entry)))) (now (out .entry)) ⌝ }
 {

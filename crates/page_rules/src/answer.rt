@@ -4,10 +4,13 @@ ghost use mathlib.Core.Bool.{Bool, true, false};
 ghost use Prim.Native.Nat.{ℕ, _+_, _*_, _-_, _/_, _%_, _^_, _<_, _≤_};
 ghost use lib.ListN.{length, take, drop};
 ghost use lib.Dec.{leb};
-ghost use Rattle.page_rules.specs.Page.{readable, sizeOf, trailer, unusedClear, checksumRight, outcomeOf, decodeOutcome, encodeOutcome};
+ghost use Rattle.page_rules.specs.Page.{readable, mostElements, sizeOf, trailer, unusedClear, checksumRight, outcomeOf, decodeOutcome, encodeOutcome};
 ghost use Rattle.coding.specs.Layout.{fit, FitsAs};
 use crate::PageAnswer;
 use crate::number::most;
+
+// The most elements in one page call.
+const MOST_ELEMENTS: usize = 131072;
 
 // A type whose pages are read: known, and not Switch.
 fn is_readable(column_type: u64) -> bool
@@ -18,7 +21,7 @@ fn is_readable(column_type: u64) -> bool
 
 // The bytes of a page of n elements, without its checksum.
 fn page_size(column_type: u64, n: usize) -> usize
-    requires { ⌜ (readable «column_type» ≡ true) × (n ≤ 131072) ⌝ }
+    requires { ⌜ (readable «column_type» ≡ true) × (n ≤ mostElements) ⌝ }
     ensures { λ r. ⌜ (r ≡ sizeOf «column_type» n) × (r ≤ 1048576) ⌝ }
 {
     (n * (column_type::width_of(column_type) as usize) + 7) / 8
@@ -115,7 +118,7 @@ pub fn decode_answer(
     if !is_readable(column_type) {
         return PageAnswer::Refused(23);
     }
-    if 131072 < n {
+    if MOST_ELEMENTS < n {
         return PageAnswer::Refused(10);
     }
     let size = page_size(column_type, n);
@@ -148,7 +151,7 @@ pub fn encode_answer(
     if !is_readable(column_type) {
         return PageAnswer::Refused(23);
     }
-    if 131072 < n {
+    if MOST_ELEMENTS < n {
         return PageAnswer::Refused(10);
     }
     if !has_room(words.len(), start, n) {
