@@ -29,3 +29,7 @@ pub record Little (k : ℕ) (s : List ℕ) (at r : ℕ) : Type 0 where
 -- the bytes that hold n elements of so many bits
 abbrev pub bytesFor : ℕ → ℕ → ℕ
 bytesFor n bits = (n * bits + 7) / 8
+
+-- the bytes of the checksum behind a page, if one follows it
+abbrev pub trailer : Bool → ℕ
+trailer checksum = pick checksum 4 0

@@ -2,7 +2,7 @@
 ghost use mathlib.Core.Path.{_≡_};
 ghost use Prim.Native.Nat.{ℕ, _+_, _≤_, _<_};
 ghost use lib.ListN.{length};
-ghost use Rattle.numbers.specs.Numbers.{little, Little, Room};
+ghost use Rattle.numbers.specs.Numbers.{little, Little, Room, trailer};
 
 // There are `len` bytes from `at` on.
 pub fn has_room(s: &[u8], at: usize, len: usize) -> bool
@@ -71,4 +71,11 @@ fn eight(s: &[u8], at: usize) -> u64
     ensures { λ r. ⌜ r ≡ little 8 (now (s .entry)) at ⌝ }
 {
     four(s, at) + 4294967296 * four(s, at + 4)
+}
+
+// The bytes of the checksum behind a page, if one follows it.
+pub fn trailer_size(checksum: bool) -> usize
+    ensures { λ r. ⌜ r ≡ trailer checksum ⌝ }
+{
+    if checksum { 4 } else { 0 }
 }

@@ -12,7 +12,8 @@ use lib.ListN.{length, take, drop, getD}
 use Rattle.numbers.specs.Rows.{over}
 use Rattle.numbers.specs.Choice.{pick}
 use Rattle.page_rules.specs.declared.PageAnswer.the-variants.{Accepted, Refused}
-use Rattle.page_rules.specs.Page.{readable, sizeOf, trailer, checksumRight, unusedClear, decodeOutcome, decoded, elements, mostElements, OutcomeTells, accept, refuse, unless, asked, RefusedBy, DecodeNumbers}
+use Rattle.numbers.specs.Numbers.{trailer}
+use Rattle.page_rules.specs.Page.{readable, sizeOf, checksumRight, unusedClear, decodeOutcome, decoded, elements, mostElements, OutcomeTells, accept, refuse, unless, asked, RefusedBy, DecodeNumbers}
 use Rattle.outcome.specs.Outcome.{Outcome, isAccepted, RefusalTells}
 use Rattle.outcome.proofs.Outcomes.{refusal-tells}
 use Rattle.coding.proofs.Plain.{little-single}

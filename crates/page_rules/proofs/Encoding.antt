@@ -17,7 +17,8 @@ use Rattle.coding.specs.Layout.{bytesOf, plain, planes, packed, fit, codedBy, l
 use Rattle.coding.specs.Strides.{puts}
 use Rattle.coding.proofs.Puts.{puts-over}
 use Rattle.numbers.specs.Rows.{over}
-use Rattle.page_rules.specs.Page.{readable, sizeOf, trailer, chosen, bytes, checkedPage, encodeOutcome, encoded, mostElements, accept, refuse, EncodeNumbers}
+use Rattle.numbers.specs.Numbers.{trailer}
+use Rattle.page_rules.specs.Page.{readable, sizeOf, chosen, bytes, checkedPage, encodeOutcome, encoded, mostElements, accept, refuse, EncodeNumbers}
 use Rattle.outcome.specs.Outcome.{Outcome, isAccepted}
 use Rattle.coding.proofs.Bits.{length-packed}
 use Rattle.coding.proofs.Places.{length-coded, length-laidOut}

@@ -7,7 +7,7 @@ use mathlib.Core.Bool.{Bool, true, false, not}
 use lib.ListN.{length, take, drop}
 use lib.Dec.{ltb, leb, eqb}
 use Rattle.numbers.specs.Choice.{pick, both}
-use Rattle.numbers.specs.Numbers.{little, bytesFor}
+use Rattle.numbers.specs.Numbers.{little, bytesFor, trailer}
 use Rattle.numbers.specs.Rows.{over}
 use Rattle.outcome.specs.Outcome.{Outcome, acceptedWith, refusedIn, isAccepted}
 use Rattle.checksum.specs.Crc.{crc32}
@@ -59,10 +59,6 @@ asked t n rest =
 -- the bytes of a page of n elements of type t, without its checksum
 abbrev pub sizeOf : ℕ → ℕ → ℕ
 sizeOf t n = bytesFor n (widthOf t)
-
--- the bytes of the checksum, if one follows
-abbrev pub trailer : Bool → ℕ
-trailer checksum = pick checksum 4 0
 
 -- the elements of a page: as their own bits, zeros above, a signed one as its two's complement at its width
 

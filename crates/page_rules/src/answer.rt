@@ -4,7 +4,8 @@ ghost use mathlib.Core.Bool.{Bool, true, false};
 ghost use Prim.Native.Nat.{ℕ, _+_, _*_, _-_, _/_, _%_, _^_, _<_, _≤_};
 ghost use lib.ListN.{length, take, drop};
 ghost use lib.Dec.{leb};
-ghost use Rattle.page_rules.specs.Page.{readable, mostElements, sizeOf, trailer, unusedClear, checksumRight, outcomeOf, decodeOutcome, encodeOutcome};
+ghost use Rattle.numbers.specs.Numbers.{trailer};
+ghost use Rattle.page_rules.specs.Page.{readable, mostElements, sizeOf, unusedClear, checksumRight, outcomeOf, decodeOutcome, encodeOutcome};
 ghost use Rattle.coding.specs.Layout.{fit, FitsAs};
 use crate::PageAnswer;
 use crate::number::most;
@@ -25,12 +26,6 @@ fn page_size(column_type: u64, n: usize) -> usize
     ensures { λ r. ⌜ (r ≡ sizeOf «column_type» n) × (r ≤ 1048576) ⌝ }
 {
     (n * (column_type::width_of(column_type) as usize) + 7) / 8
-}
-
-fn trailer_size(checksum: bool) -> usize
-    ensures { λ r. ⌜ r ≡ trailer checksum ⌝ }
-{
-    if checksum { 4 } else { 0 }
 }
 
 // The checksum behind the page, if there is one, is that of the page.
@@ -122,7 +117,7 @@ pub fn decode_answer(
         return PageAnswer::Refused(10);
     }
     let size = page_size(column_type, n);
-    if page.len() != size + trailer_size(checksum) {
+    if page.len() != size + numbers::trailer_size(checksum) {
         return PageAnswer::Refused(21);
     }
     if !checksum_right(checksum, size, page) {
@@ -157,7 +152,7 @@ pub fn encode_answer(
     if !has_room(words.len(), start, n) {
         return PageAnswer::Refused(20);
     }
-    let size = page_size(column_type, n) + trailer_size(checksum);
+    let size = page_size(column_type, n) + numbers::trailer_size(checksum);
     if room < size {
         return PageAnswer::Refused(20);
     }

@@ -13,11 +13,11 @@ use lib.ListN.{length, take, drop, getD, length-append, length-drop, length-map,
 use lib.Seq.{take-at, take-all, drop-at, length-take-le}
 use borrow.Author.Tests.{eqb-true, eqb-false, eq-eqb, ltb-true, lt-ltb, le-leb}
 use Rattle.numbers.specs.Choice.{pick}
-use Rattle.numbers.specs.Numbers.{little}
+use Rattle.numbers.specs.Numbers.{little, trailer}
 use Rattle.checksum.specs.Crc.{crc32}
 use Rattle.column_type.specs.Types.{widthOf, split, delta, zigzag}
 use Rattle.coding.specs.Layout.{sums, zigzagged, unzigzagged, bytesOf, unplain, unplanes, bitsByte, packed, unpacked, fit, codedBy, laidOut}
-use Rattle.page_rules.specs.Page.{readable, sizeOf, trailer, chosen, laid, elements, bytes, checkedPage, checksumRight, unusedClear, accept, encodeOutcome, encoded, decodeOutcome, decoded}
+use Rattle.page_rules.specs.Page.{readable, sizeOf, chosen, laid, elements, bytes, checkedPage, checksumRight, unusedClear, accept, encodeOutcome, encoded, decodeOutcome, decoded}
 use Rattle.round_trip.specs.RoundTrip.{EncodeDecode, DecodeEncode, DecodeEncodeInPlace}
 use Rattle.outcome.specs.Outcome.{isAccepted}
 use Rattle.coding.specs.Inverses.{Below}

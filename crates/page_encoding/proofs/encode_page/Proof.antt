@@ -4,7 +4,8 @@ use lib.ListN.{length-drop, length, drop}
 use Rattle.outcome.specs.Outcome.{isAccepted}
 use Rattle.page_rules.proofs.Encoding.{Encodes, encodes, counted, encoded-accepted, encoded-refused, part-is}
 use Rattle.numbers.specs.Rows.{over}
-use Rattle.page_rules.specs.Page.{sizeOf, trailer, chosen, bytes, checkedPage, accept, outcomeOf, encodeOutcome}
+use Rattle.numbers.specs.Numbers.{trailer}
+use Rattle.page_rules.specs.Page.{sizeOf, chosen, bytes, checkedPage, accept, outcomeOf, encodeOutcome}
 use Rattle.page_encoding.proofs.encode_page.Statement.{statement}
 use mathlib.Core.Path.{_≡_, sym, ap, _∙_}
 use mathlib.Core.Bool.{true}

@@ -3,7 +3,8 @@ use Rattle.checksum.specs.Crc.{crc32}
 use Rattle.page_rules.proofs.Encoding.{length-bytes, with-checksum, without-checksum}
 use Rattle.coding.specs.Strides.{puts}
 use Rattle.numbers.specs.Rows.{over}
-use Rattle.page_rules.specs.Page.{sizeOf, trailer, bytes, checkedPage}
+use Rattle.numbers.specs.Numbers.{trailer}
+use Rattle.page_rules.specs.Page.{sizeOf, bytes, checkedPage}
 use Rattle.page_encoding.proofs.write.write_checked.Statement.{statement}
 use mathlib.Core.Path.{_≡_, sym, ap, _∙_}
 use mathlib.Core.List.{List}

@@ -8,9 +8,9 @@ use Prim.Native.Nat.{_+_, _≤_}
 use native.Mathlib.Omega.{arith}
 use denote.Ref.{now}
 use Rattle.numbers.specs.Choice.{pick}
-use Rattle.numbers.specs.Numbers.{little}
+use Rattle.numbers.specs.Numbers.{little, trailer}
 use Rattle.checksum.specs.Crc.{crc32}
-use Rattle.page_rules.specs.Page.{checksumRight, trailer}
+use Rattle.page_rules.specs.Page.{checksumRight}
 use borrow.Author.Needs.{needs}
 use Rattle.page_rules.proofs.answer.checksum_right.Statement.{statement}
 use Rattle.page_rules.proofs.answer.checksum_right.Tie as tie

@@ -5,7 +5,8 @@ use Rattle.page_rules.proofs.Types.{width-most}
 use Rattle.page_rules.proofs.Decoding.{trailer-most}
 use Rattle.page_rules.proofs.Encoding.{Asked, refused-23, refused-10, refused-words, refused-room, refused-25, accepted, part-is}
 use Rattle.column_type.specs.Types.{widthOf}
-use Rattle.page_rules.specs.Page.{readable, sizeOf, trailer, chosen, accept}
+use Rattle.numbers.specs.Numbers.{trailer}
+use Rattle.page_rules.specs.Page.{readable, sizeOf, chosen, accept}
 use Rattle.coding.specs.Layout.{fit}
 use Rattle.page_rules.proofs.answer.encode_answer.Statement.{statement}
 use mathlib.Core.Path.{_≡_, sym, ap, ap₂, _∙_, subst}
