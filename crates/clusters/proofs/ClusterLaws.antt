@@ -1,15 +1,14 @@
 -- The loop over clusters: the items that are read, and the sum of their entries.
 use Prim.Native.Nat.{ℕ, _+_, _/_, _%_, _^_, _<_}
 use mathlib.Core.Path.{_≡_, refl, sym, ap, subst, _∙_}
-use mathlib.Core.Bool.{Bool, true, false}
+use mathlib.Core.Bool.{Bool}
 use mathlib.Core.List.{List, [], _∷_, _++_}
 use native.Mathlib.Omega.{arith}
 use borrow.Author.Tests.{ltb-true}
 use lib.Dec.{ltb, eqb}
-use Rattle.numbers.specs.Choice.{pick}
-use Rattle.wire.specs.Reading.{Step, found, _>>=_, give, number, tested}
+use Rattle.wire.specs.Reading.{Step, found, _>>=_, give, unless, number, tested}
 use Rattle.frames.specs.Frames.{recordOf}
-use Rattle.wire.proofs.Laws.{bound, judged-zero}
+use Rattle.wire.proofs.Laws.{passed, bound, judged-zero}
 use Rattle.frames.proofs.Loops.{Reached, reached-none, reached-more, record-found}
 use Rattle.links.specs.Links.{link}
 use Rattle.clusters.specs.Clusters.{entriesOf, startsAt, entryCount, cluster}
@@ -23,13 +22,10 @@ entries-snoc (c ∷ cs) x = let e = entries-snoc cs x in omega arith
 
 -- an entry count that has passed its verdict keeps the sum below 2^60
 count-fits : (sum w : ℕ) → entryCount sum w ≡ 0 → sum + w < 2 ^ 60
-count-fits sum w e = by (eqb (w / 2 ^ 60 % 2) 0) (ltb w (2 ^ 60)) (ltb (sum + w) (2 ^ 60)) refl e
-  where
-    by : (a b d : Bool) → ltb (sum + w) (2 ^ 60) ≡ d → _≡_ {A = ℕ} (pick a (pick b (pick d 0 19) 12) 17) 0 → sum + w < 2 ^ 60
-    by true true true g h = ltb-true (sum + w) (2 ^ 60) g
-    by true true false g h = absurd (omega arith)
-    by true false d g h = absurd (omega arith)
-    by false b d g h = absurd (omega arith)
+count-fits sum w e =
+    let (_, later) = passed (eqb (w / 2 ^ 60 % 2) 0) 16 (unless (ltb w (2 ^ 60)) 12 (unless (ltb (sum + w) (2 ^ 60)) 19 0)) e in
+    let (_, last) = passed (ltb w (2 ^ 60)) 11 (unless (ltb (sum + w) (2 ^ 60)) 19 0) later in
+    ltb-true (sum + w) (2 ^ 60) (passed (ltb (sum + w) (2 ^ 60)) 18 0 last .0)
 
 cluster-fits : (file sum : ℕ) (s : List ℕ) (at : ℕ) {r : ClusterRow} {p : ℕ} → cluster file sum s at ≡ found r p → sum + r .entries < 2 ^ 60
 unfolding cluster

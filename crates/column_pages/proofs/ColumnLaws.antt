@@ -3,7 +3,6 @@ use Prim.Native.Nat.{ℕ, _%_, _^_, _≤_, _<_}
 use mathlib.Core.Path.{_≡_, refl, sym, ap, _∙_}
 use mathlib.Core.Bool.{Bool, true, false}
 use mathlib.Core.List.{List, [], map}
-use native.Mathlib.Omega.{arith}
 use borrow.Author.Tests.{leb-true, eqb-true}
 use lib.Dec.{leb, eqb}
 use lib.ListN.{length, getD, take, replicate, length-map, List·getD-map}
@@ -11,11 +10,11 @@ use Rattle.numbers.specs.Choice.{pick}
 use Rattle.numbers.specs.Rows.{over}
 use Rattle.wire.specs.declared.Fault.{Fault}
 use Rattle.frames.specs.declared.ListHead.{ListHead}
-use Rattle.wire.specs.Reading.{Step, found, refused, accepted, rowsOf, inItem, fault}
+use Rattle.wire.specs.Reading.{Step, found, refused, accepted, rowsOf, inItem, fault, unless}
 use Rattle.wire.specs.Answers.{numberStep}
 use Rattle.wire.specs.declared.Kind.the-variants.{Spare}
 use Rattle.wire.specs.declared.NumberStep.the-variants.{Found}
-use Rattle.wire.proofs.Laws.{never}
+use Rattle.wire.proofs.Laws.{never, passed}
 use Rattle.envelope.specs.Envelope.{whole}
 use Rattle.frames.specs.Frames.{listOf, listHead, listCount, listStop, spare, closed, closedBy, items}
 use Rattle.frames.proofs.Laws.{count-zero, ended, spared}
@@ -43,12 +42,9 @@ bits-length table n = length-map (columnsIn table n) (λ (r : ColumnRow). r .bit
 
 -- a count that passes is the number of columns
 pub count-passes : (n k : ℕ) → perColumn n k ≡ 0 → (k ≤ mostColumns) × (k ≡ n)
-count-passes n k z = by (leb k mostColumns) (eqb k n) refl refl z
-  where
-    by : (a b : Bool) → leb k mostColumns ≡ a → eqb k n ≡ b → _≡_ {A = ℕ} (pick a (pick b 0 19) 10) 0 → (k ≤ mostColumns) × (k ≡ n)
-    by true true e g w = (leb-true k mostColumns e, eqb-true k n g)
-    by true false e g w = absurd (omega arith)
-    by false b e g w = absurd (omega arith)
+count-passes n k z =
+    let (few, later) = passed (leb k mostColumns) 9 (unless (eqb k n) 19 0) z in
+    (leb-true k mostColumns few, eqb-true k n (passed (eqb k n) 18 0 later .0))
 
 -- what the end of a frame makes of sums
 module _ (mark : Fault → Fault) (strict : Bool) (stop : ℕ) where

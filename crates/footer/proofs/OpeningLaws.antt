@@ -1,27 +1,22 @@
 -- What stands before the clusters.
 use Prim.Native.Nat.{ℕ}
 use mathlib.Core.Path.{_≡_, refl}
-use mathlib.Core.Bool.{Bool, true, false}
+use mathlib.Core.Bool.{Bool}
 use mathlib.Core.List.{List, []}
-use native.Mathlib.Omega.{arith}
 use borrow.Author.Tests.{eqb-true}
 use lib.Dec.{eqb}
 use lib.ListN.{length}
-use Rattle.numbers.specs.Choice.{pick}
 use Rattle.frames.specs.declared.ListHead.{ListHead}
 use Rattle.envelope.specs.Features.{features}
 use Rattle.wire.specs.Reading.{Step, found, refused, Rule, after, give, tested, counted, inItem}
+use Rattle.wire.proofs.Laws.{passed}
 use Rattle.frames.specs.Frames.{closedBy, items, listHead, listCount, listStop}
 use Rattle.frames.proofs.Laws.{count-zero, counted-closed}
 use Rattle.frames.proofs.Loops.{list-is}
 use Rattle.footer.specs.Footer.{names, noItems, empty, afterOpening, opening}
 
 none : (n : ℕ) → noItems n ≡ 0 → n ≡ 0
-none n e = by (eqb n 0) refl e
-  where
-    by : (b : Bool) → eqb n 0 ≡ b → _≡_ {A = ℕ} (pick b 0 17) 0 → n ≡ 0
-    by true g h = eqb-true n 0 g
-    by false g h = absurd (omega arith)
+none n e = eqb-true n 0 (passed (eqb n 0) 16 0 e .0)
 
 -- a list without items, whose head was read
 pub empty-read : (strict : Bool) (s : List ℕ) (at : ℕ) {h : ListHead} {stop : ℕ} → listHead noItems s at ≡ found h stop → counted (empty strict s at) ≡ closedBy (inItem at 0) strict stop (found 0 (h .start))

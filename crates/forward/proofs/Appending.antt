@@ -12,6 +12,7 @@ use lib.ListN.{length, getD, take, drop, length-append, length-map, List·getD-a
 use Rattle.numbers.specs.Lists.{Each}
 use Rattle.numbers.specs.Choice.{both}
 use Rattle.wire.specs.Reading.{unless, found}
+use Rattle.wire.proofs.Laws.{passed}
 use Rattle.numbers.specs.Rows.{flat, over}
 use Rattle.column_type.specs.Types.{known}
 use Rattle.header.specs.Header.{Header}
@@ -28,6 +29,7 @@ use Rattle.header.specs.declared.HeaderTables.{HeaderTables}
 use Rattle.tree.specs.Shape.{chars, Shape, Framed, ValidItems, recordShape}
 use Rattle.tree.specs.HeaderTree.{FieldContent, HeaderContent, PayloadContent, headShape, fieldShape, columnShape, aliasShape, flagsIn, parentsIn, fieldContent, headerContent, listsShape, payloadShape, headerCarrier, HeaderTree, renderHeader, tablesOf, RightHeader}
 use Rattle.numbers.proofs.Choice.{both-true, both-false}
+use Rattle.numbers.proofs.Lists.{each-append, each-weaken, each-map}
 use Rattle.tree.proofs.HeaderLaws.{header-complete, tables-known, parents-same}
 use Rattle.forward.specs.SameTables.{fieldSays, fieldRow}
 use Rattle.forward.specs.HeaderAppend.{appended, SelfParented, Appendix, HeaderAppend}
@@ -38,26 +40,8 @@ use Rattle.forward.proofs.Chains.{Closed-under, Tops, reach-appended, a
 
 -- verdicts
 
-judged : (b : Bool) (k : ℕ) → unless b (suc k) 0 ≡ 0 → b ≡ true
-judged true k e = refl
-judged false k e = absurd (omega arith)
-
-passed : (b : Bool) (k : ℕ) → b ≡ true → unless b k 0 ≡ 0
-passed b k e = rw e refl
-
--- lists of which each item has a property
-
-each-append : {T : Type 0} (P : T → Type 0) (xs ys : List T) → Each P xs → Each P ys → Each P (xs ++ ys)
-each-append P [] ys a b = b
-each-append P (x ∷ xs) ys a b = (a .0, each-append P xs ys (a .1) b)
-
-each-weaken : {T : Type 0} {P Q : T → Type 0} → ((t : T) → P t → Q t) → (xs : List T) → Each P xs → Each Q xs
-each-weaken f [] a = tt
-each-weaken f (x ∷ xs) a = (f x (a .0), each-weaken f xs (a .1))
-
-each-map : {T U : Type 0} (P : U → Type 0) (f : T → U) (xs : List T) → Each (λ t. P (f t)) xs → Each P (map f xs)
-each-map P f [] a = tt
-each-map P f (x ∷ xs) a = (a .0, each-map P f xs (a .1))
+passes : (b : Bool) (k : ℕ) → b ≡ true → unless b k 0 ≡ 0
+passes b k e = rw e refl
 
 -- items whose shape does not hang on those before are valid when each is
 
@@ -74,8 +58,8 @@ each-item S done (c ∷ cs) v = (v .0, each-item S (done ++ (c ∷ [])) cs (v .1
 head-valid : (n m : ℕ) → n ≤ m → (c : FieldHead) → headShape n .Valid c → headShape m .Valid c
 unfolding headShape
 head-valid n m le c v =
-    let less : c .parent .0 < n = ltb-true (c .parent .0) n (judged (ltb (c .parent .0) n) 13 (v .1 .1 .0 .1)) in
-    (v .0, (v .1 .0, ((v .1 .1 .0 .0, passed (ltb (c .parent .0) m) 14 (lt-ltb (c .parent .0) m (omega arith))), v .1 .1 .1)))
+    let less : c .parent .0 < n = ltb-true (c .parent .0) n (passed (ltb (c .parent .0) n) 13 0 (v .1 .1 .0 .1) .0) in
+    (v .0, (v .1 .0, ((v .1 .1 .0 .0, passes (ltb (c .parent .0) m) 14 (lt-ltb (c .parent .0) m (omega arith))), v .1 .1 .1)))
 
 field-valid : (n m : ℕ) → n ≤ m → (c : FieldContent) → fieldShape n .Valid c → fieldShape m .Valid c
 unfolding fieldShape
@@ -83,7 +67,7 @@ field-valid n m le c v = (head-valid n m le (c .head) (v .0), v .1)
 
 head-parent : (n : ℕ) (c : FieldHead) → headShape n .Valid c → c .parent .0 < n
 unfolding headShape
-head-parent n c v = ltb-true (c .parent .0) n (judged (ltb (c .parent .0) n) 13 (v .1 .1 .0 .1))
+head-parent n c v = ltb-true (c .parent .0) n (passed (ltb (c .parent .0) n) 13 0 (v .1 .1 .0 .1) .0)
 
 field-parent : (n : ℕ) (c : FieldContent) → fieldShape n .Valid c → c .head .parent .0 < n
 unfolding fieldShape
@@ -91,24 +75,24 @@ field-parent n c v = head-parent n (c .head) (v .0)
 
 column-field : (n : ℕ) (c : ColumnRow) → columnShape n .Valid c → c .field .0 < n
 unfolding columnShape
-column-field n c v = ltb-true (c .field .0) n (judged (ltb (c .field .0) n) 13 (v .1 .1 .0 .1))
+column-field n c v = ltb-true (c .field .0) n (passed (ltb (c .field .0) n) 13 0 (v .1 .1 .0 .1) .0)
 
 column-valid : (n m : ℕ) → n ≤ m → (c : ColumnRow) → columnShape n .Valid c → columnShape m .Valid c
 unfolding columnShape
 column-valid n m le c v =
-    let less : c .field .0 < n = ltb-true (c .field .0) n (judged (ltb (c .field .0) n) 13 (v .1 .1 .0 .1)) in
-    (v .0, (v .1 .0, ((v .1 .1 .0 .0, passed (ltb (c .field .0) m) 14 (lt-ltb (c .field .0) m (omega arith))), v .1 .1 .1)))
+    let less : c .field .0 < n = ltb-true (c .field .0) n (passed (ltb (c .field .0) n) 13 0 (v .1 .1 .0 .1) .0) in
+    (v .0, (v .1 .0, ((v .1 .1 .0 .0, passes (ltb (c .field .0) m) 14 (lt-ltb (c .field .0) m (omega arith))), v .1 .1 .1)))
 
 alias-valid : (flags new : List ℕ) (n m : ℕ) → n ≤ m → (c : AliasRow) → aliasShape flags n .Valid c → aliasShape (flags ++ new) m .Valid c
 unfolding aliasShape
 alias-valid flags new n m le c v =
     let f = c .field .0 in
-    let less : c .column .0 < n = ltb-true (c .column .0) n (judged (ltb (c .column .0) n) 13 (v .0 .1)) in
-    let (below, flag) = both-true (ltb f (length flags)) (aliased (getD flags f 0)) (judged (both (ltb f (length flags)) (aliased (getD flags f 0))) 13 (v .1 .0 .1)) in
+    let less : c .column .0 < n = ltb-true (c .column .0) n (passed (ltb (c .column .0) n) 13 0 (v .0 .1) .0) in
+    let (below, flag) = both-true (ltb f (length flags)) (aliased (getD flags f 0)) (passed (both (ltb f (length flags)) (aliased (getD flags f 0))) 13 0 (v .1 .0 .1) .0) in
     let below′ : f < length flags = ltb-true f (length flags) below in
     let below″ : ltb f (length (flags ++ new)) ≡ true = lt-ltb f (length (flags ++ new)) (omega (arith, length-append flags new)) in
     let same : getD (flags ++ new) f 0 ≡ getD flags f 0 = List·getD-append flags new 0 f below′ in
-    ((v .0 .0, passed (ltb (c .column .0) m) 14 (lt-ltb (c .column .0) m (omega arith))), ((v .1 .0 .0, rw (below″, same, flag) refl), v .1 .1))
+    ((v .0 .0, passes (ltb (c .column .0) m) 14 (lt-ltb (c .column .0) m (omega arith))), ((v .1 .0 .0, rw (below″, same, flag) refl), v .1 .1))
 
 -- contents with rows appended
 abbrev with-rows : PayloadContent → List FieldContent → List ColumnRow → PayloadContent
@@ -144,7 +128,7 @@ appended-valid c ns ks v vn vk few few′ =
     let fields = each-item (recordShape (fieldShape m)) [] (fs ++ ns) (each-append (fieldShape m .Valid) fs ns (each-weaken (field-valid n m (omega arith)) fs vf) vn) in
     let columns = each-item (recordShape (columnShape m)) [] (cs ++ ks) (each-append (columnShape m .Valid) cs ks (each-weaken (column-valid n m (omega arith)) cs vc) vk) in
     let aliases = each-item (recordShape (aliasShape (flagsIn fs ++ flagsIn ns) (length (cs ++ ks)))) [] as′ (each-weaken (alias-valid (flagsIn fs) (flagsIn ns) (length cs) (length (cs ++ ks)) (omega arith)) as′ va) in
-    (v .0, ((rw long (omega arith, passed (leb m mostFields) 10 (le-leb m mostFields few), fields), (rw (long, long′) (omega arith, passed (leb (length cs + length ks) mostColumns) 10 (le-leb (length cs + length ks) mostColumns few′), columns), (rw flags (lists .1 .1 .0 .0, lists .1 .1 .0 .1, aliases), tt))), tt))
+    (v .0, ((rw long (omega arith, passes (leb m mostFields) 10 (le-leb m mostFields few), fields), (rw (long, long′) (omega arith, passes (leb (length cs + length ks) mostColumns) 10 (le-leb (length cs + length ks) mostColumns few′), columns), (rw flags (lists .1 .1 .0 .0, lists .1 .1 .0 .1, aliases), tt))), tt))
 
 -- parents
 

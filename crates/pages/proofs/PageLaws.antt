@@ -2,15 +2,14 @@
 use Prim.Native.Nat.{ℕ, _+_, _*_, _^_, _≤_, _<_}
 use mathlib.Core.Path.{_≡_, refl, ap, _∙_}
 use mathlib.Core.List.{List, [], _∷_, _++_}
-use mathlib.Core.Bool.{Bool, true, false}
 use native.Mathlib.Nat.{mul-le-mul}
 use native.Mathlib.Omega.{arith}
 use borrow.Author.Tests.{leb-true}
 use lib.Dec.{leb}
 use lib.ListN.{length}
-use Rattle.numbers.specs.Choice.{pick}
 use Rattle.frames.specs.declared.ListHead.{ListHead}
 use Rattle.wire.specs.Reading.{found, Rule, after, give, tested, mapped}
+use Rattle.wire.proofs.Laws.{passed}
 use Rattle.locator.specs.Locator.{located, locator}
 use Rattle.locator.specs.declared.Range.{Range}
 use Rattle.locator.proofs.Laws.{located-by}
@@ -74,11 +73,7 @@ module _ {file c bits list n : ℕ} {s : List ℕ} {start : ℕ} where
 
 -- a count that passes the running total keeps it within the ceiling
 pub total-fits : (total n : ℕ) → runningTotal total n ≡ 0 → total + n ≤ mostPages
-total-fits total n z = by (leb (total + n) mostPages) refl z
-  where
-    by : (b : Bool) → leb (total + n) mostPages ≡ b → _≡_ {A = ℕ} (pick b 0 10) 0 → total + n ≤ mostPages
-    by true g w = leb-true (total + n) mostPages g
-    by false g w = absurd (omega arith)
+total-fits total n z = leb-true (total + n) mostPages (passed (leb (total + n) mostPages) 9 0 z .0)
 
 pub head-fits : (total : ℕ) (s : List ℕ) (at : ℕ) {h : ListHead} {stop : ℕ} → listHead (runningTotal total) s at ≡ found h stop → total + h .count ≤ mostPages
 head-fits total s at {h} e = total-fits total (h .count) (count-zero (runningTotal total) at (listCount s at (listStop s at)) e)

@@ -1,5 +1,5 @@
 -- Laws of the rules of reading, which the proofs of this crate and of those above it cite.
-use Prim.Native.Nat.{ℕ, _+_}
+use Prim.Native.Nat.{ℕ, suc, _+_}
 use mathlib.Core.Path.{_≡_, refl, sym}
 use mathlib.Core.Bool.{Bool, true, false}
 use mathlib.Core.List.{List}
@@ -11,7 +11,7 @@ use Rattle.numbers.specs.Choice.{pick}
 use Rattle.numbers.specs.Numbers.{Room, Little}
 use Rattle.wire.specs.declared.Fault.{Fault}
 use Rattle.wire.specs.declared.Kind.the-variants.{Number}
-use Rattle.wire.specs.Reading.{Step, found, refused, Rule, after, _>>=_, mapped, fault, number, judged, counted, rowsOf}
+use Rattle.wire.specs.Reading.{Step, found, refused, Rule, after, _>>=_, mapped, fault, unless, number, judged, counted, rowsOf}
 
 -- what the count of a step's rows says of the step
 pub counted-found : {A : Type 0} {n p : ℕ} (x : Step (List A)) → counted x ≡ found n p → (x ≡ found (rowsOf x) p) × (length (rowsOf x) ≡ n)
@@ -21,6 +21,11 @@ counted-found (refused f) h = let z : _≡_ {A = ℕ} 0 1 = cc in absurd (omega 
 pub counted-refused : {A : Type 0} {f : Fault} (x : Step (List A)) → counted x ≡ refused f → x ≡ refused f
 counted-refused (found rows q) h = let z : _≡_ {A = ℕ} 0 1 = cc in absurd (omega arith)
 counted-refused (refused g) h = cc
+
+-- a verdict that was passed: its test holds, and the verdicts after it were passed too
+pub passed : (b : Bool) (k rest : ℕ) → unless b (suc k) rest ≡ 0 → (b ≡ true) × (rest ≡ 0)
+passed true k rest e = (refl, e)
+passed false k rest e = absurd (omega arith)
 
 -- what a step that was found says of the step before
 
