@@ -33,7 +33,7 @@
  *   16  footer names another header checksum
  *   17  extension header, column group, sharded flag, locator with bit 31
  *       set, or stored size other than the uncompressed size
- *   18  byte range not inside the file
+ *   18  byte range not inside the file, that of a page with its check bytes
  *   19  entry or element counts disagree
  *   20  lent room too small
  *   21  page length wrong
@@ -126,7 +126,9 @@ uint32_t rnt_read_footer(const uint8_t *header, size_t header_length,
  * the header is refused, else 3.
  *
  * Page row, 5 words: column, elements, 1 when a checksum follows the page
- * (else 0), size without that checksum, offset.
+ * (else 0), size without that checksum, offset. In an accepted page list
+ * each page is inside the file, with the four bytes of its checksum if it has
+ * one.
  *
  * Result, 1 word: number of pages.
  */

@@ -74,7 +74,7 @@ reasons! {
     (15, EndlessChain, "a parent chain never reaches a self-parented field"),
     (16, OtherHeader, "footer names another header checksum"),
     (17, OutsideProfile, "extension header, column group, sharded flag, locator with bit 31 set, or stored size other than the uncompressed size"),
-    (18, OutsideFile, "byte range not inside the file"),
+    (18, OutsideFile, "byte range not inside the file, that of a page with its check bytes"),
     (19, CountsDisagree, "entry or element counts disagree"),
     (20, RoomTooSmall, "lent room too small"),
     (21, PageLength, "page length wrong"),

@@ -70,7 +70,7 @@ pub struct Link {
 pub struct Page {
     pub column: ColumnNumber,
     pub elements: usize,
-    /// Four bytes of checksum follow the page in the file.
+    /// Four bytes of checksum follow the page, inside the file like the page.
     pub checksum: bool,
     /// Without that checksum.
     pub size: u64,

@@ -99,7 +99,7 @@ plain-footer-right =
       plain = λ _. ((tt, (tt, ((tt, refl), ((tt, refl), ((((tt, refl), tt), refl), (((tt, tt), refl), tt)))))), refl);
     }
 
-plain-page-list-right : RightPageList 76 (bitsOf (tablesOf plainHeader .columns)) plainPageList
+plain-page-list-right : RightPageList 80 (bitsOf (tablesOf plainHeader .columns)) plainPageList
 unfolding pageListShape pagesShape pageShape
 plain-page-list-right =
     record {
@@ -238,22 +238,22 @@ lent-pages = replicate 11 9
 abbrev left-pages : List ℕ
 left-pages = 0 ∷ 3 ∷ 0 ∷ 24 ∷ 50 ∷ 1 ∷ 3 ∷ 1 ∷ 2 ∷ 74 ∷ 9 ∷ []
 
-plain-page-list-call : AnsweredPages (pageListBeside (renderHeader plainHeader) (renderPageList plainPageList) 3 76) lent-pages left-pages (AcceptedPages 2)
+plain-page-list-call : AnsweredPages (pageListBeside (renderHeader plainHeader) (renderPageList plainPageList) 3 80) lent-pages left-pages (AcceptedPages 2)
 unfolding pages-answer pages-written flat pagesOf
 plain-page-list-call = rw (extensible .pageListReads) (record { answers = refl; reports = refl; pagesAre = refl })
 
-pub newer-page-list-call : AnsweredPages (pageListBeside (renderHeader newerHeader) (renderPageList newerPageList) 3 76) lent-pages left-pages (AcceptedPages 2)
+pub newer-page-list-call : AnsweredPages (pageListBeside (renderHeader newerHeader) (renderPageList newerPageList) 3 80) lent-pages left-pages (AcceptedPages 2)
 unfolding pages-answer pages-written flat pagesOf
 newer-page-list-call = rw (extensible .newerPageListReads) (record { answers = refl; reports = refl; pagesAre = refl })
 
-page-list-kept : PageListKept (renderHeader plainHeader) (renderPageList plainPageList) 3 76 lent-pages left-pages (AcceptedPages 2)
+page-list-kept : PageListKept (renderHeader plainHeader) (renderPageList plainPageList) 3 80 lent-pages left-pages (AcceptedPages 2)
 page-list-kept =
-    demand-3 .pageList (renderHeader plainHeader) (renderPageList plainPageList) 3 76 lent-pages left-pages 2 plain-bytes plain-page-list-bytes plain-page-list-call
+    demand-3 .pageList (renderHeader plainHeader) (renderPageList plainPageList) 3 80 lent-pages left-pages 2 plain-bytes plain-page-list-bytes plain-page-list-call
 
-pub newer-page-list-kept : (p : List ℕ) (r : PageListAnswer) → AnsweredPages (pageListBeside (renderHeader newerHeader) (renderPageList newerPageList) 3 76) lent-pages p r
+pub newer-page-list-kept : (p : List ℕ) (r : PageListAnswer) → AnsweredPages (pageListBeside (renderHeader newerHeader) (renderPageList newerPageList) 3 80) lent-pages p r
     → (r ≡ AcceptedPages 2) × (p ≡ left-pages)
 newer-page-list-kept =
     let tree = page-list-kept .header .only plainHeader plain-right refl in
-    let right = subst (λ (t : HeaderTree). RightPageList 76 (bitsOf (tablesOf t .columns)) plainPageList) tree plain-page-list-right in
+    let right = subst (λ (t : HeaderTree). RightPageList 80 (bitsOf (tablesOf t .columns)) plainPageList) tree plain-page-list-right in
     let tree′ = page-list-kept .pageList .only plainPageList right refl in
     page-list-kept .forward newerHeader newerPageList (subst (λ (t : HeaderTree). ChosenHeader t newerHeader) tree (extensible .header)) (subst (λ (u : PageListTree). ChosenPageList u newerPageList) tree′ (extensible .pageList)) (omega (arith, extensible .newerHeaderBytes)) (omega (arith, extensible .newerPageListBytes))

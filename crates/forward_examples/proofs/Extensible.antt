@@ -66,11 +66,11 @@ newer-footer-reads : footerOf (checksumOf (renderHeader newerHeader)) 140 (rende
 unfolding versioned opened recordOf listOf items number judged frameSize recordHead listStop countJudged little crc32 fold byte bits shifted features sealed unsummed payloadShape textsShape listsShape featureWords spelled fieldShape headShape stringsShape columnShape aliasShape footerOf link cluster entriesOf footerPayload footerShape clusterShape linkShape
 newer-footer-reads = refl
 
-page-list-reads : pageListOf plainRead 3 76 (renderPageList plainPageList) ≡ found pagesRead 60
+page-list-reads : pageListOf plainRead 3 80 (renderPageList plainPageList) ≡ found pagesRead 60
 unfolding versioned opened recordOf listOf items number judged frameSize listStop countJudged little crc32 fold byte bits shifted sealed unsummed spelled known pageListOf pageListPayload summed pages page pagesOf totals totalOf elementsOf pageListShape pagesShape pageShape
 page-list-reads = refl
 
-newer-page-list-reads : pageListOf newerRead 3 76 (renderPageList newerPageList) ≡ found pagesRead 68
+newer-page-list-reads : pageListOf newerRead 3 80 (renderPageList newerPageList) ≡ found pagesRead 68
 unfolding versioned opened recordOf listOf items number judged frameSize listStop countJudged little crc32 fold byte bits shifted sealed unsummed spelled known pageListOf pageListPayload summed pages page pagesOf totals totalOf elementsOf pageListShape pagesShape pageShape
 newer-page-list-reads = refl
 
@@ -126,8 +126,8 @@ extensible =
       });
       pageListBytes = refl;
       newerPageListBytes = refl;
-      pageListReads = both-read-is 3 (λ h. pageListOf h 3 76 (renderPageList plainPageList)) (headerOf (renderHeader plainHeader)) pagesRead plainRead 164 60 header-reads page-list-reads;
-      newerPageListReads = both-read-is 3 (λ h. pageListOf h 3 76 (renderPageList newerPageList)) (headerOf (renderHeader newerHeader)) pagesRead newerRead 182 68 newer-header-reads newer-page-list-reads;
+      pageListReads = both-read-is 3 (λ h. pageListOf h 3 80 (renderPageList plainPageList)) (headerOf (renderHeader plainHeader)) pagesRead plainRead 164 60 header-reads page-list-reads;
+      newerPageListReads = both-read-is 3 (λ h. pageListOf h 3 80 (renderPageList newerPageList)) (headerOf (renderHeader newerHeader)) pagesRead newerRead 182 68 newer-header-reads newer-page-list-reads;
     }
 
 appended-long : length (renderHeader appendedHeader) ≡ 221

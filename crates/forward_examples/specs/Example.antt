@@ -213,8 +213,8 @@ pub record Extensible : Type 0 where
   pub pageList : ChosenPageList plainPageList newerPageList
   pub pageListBytes : length (renderPageList plainPageList) ≡ 64
   pub newerPageListBytes : length (renderPageList newerPageList) ≡ 72
-  pub pageListReads : pageListBeside (renderHeader plainHeader) (renderPageList plainPageList) 3 76 ≡ read pagesRead
-  pub newerPageListReads : pageListBeside (renderHeader newerHeader) (renderPageList newerPageList) 3 76 ≡ read pagesRead
+  pub pageListReads : pageListBeside (renderHeader plainHeader) (renderPageList plainPageList) 3 80 ≡ read pagesRead
+  pub newerPageListReads : pageListBeside (renderHeader newerHeader) (renderPageList newerPageList) 3 80 ≡ read pagesRead
 
 -- the field and the column may be appended; the rules accept the header with them
 pub record Appendable : Type 0 where

@@ -13,6 +13,6 @@ abbrev row : ℕ → ℕ → Rule Link
 row stored offset = give (record { size = stored; offset = offset })
 
 pub link-by : (file : ℕ) (s : List ℕ) (at : ℕ) {due p : ℕ} → number 4 s at ≡ found due p
-    → link file s at ≡ after (λ (r : Range). give (record { size = r .size; offset = r .offset })) s (locator file due s p)
+    → link file s at ≡ after (λ (r : Range). give (record { size = r .size; offset = r .offset })) s (locator file due 0 s p)
 unfolding link
-link-by file s at {due} {p} e = ap (after (λ size. located file size row) s) e ∙ located-by file due row s p
+link-by file s at {due} {p} e = ap (after (λ size. located file size 0 row) s) e ∙ located-by file due 0 row s p

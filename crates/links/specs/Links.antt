@@ -13,7 +13,7 @@ use Rattle.rows.specs.declared.Link.{Link}
 unfoldable pub link : ℕ → Rule Link
 link file = do
   size ← number 4
-  located file size (λ stored offset. give (record { size = stored; offset = offset }))
+  located file size 0 (λ stored offset. give (record { size = stored; offset = offset }))
 
 -- the items of a list at `list`, whose head was read
 abbrev pub linkItems : List ℕ → ℕ → ListHead → ℕ → Step (List Link)

@@ -27,6 +27,7 @@ pub fn link_at(s: &[u8], at: usize, file: u64) -> LinkStep
             locator_place,
             file,
             due,
+            false,
         ) {
             RangeStep::Found(range, next) => LinkStep::Found(
                 Link {

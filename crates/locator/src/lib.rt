@@ -2,6 +2,8 @@
 use wire::Fault;
 use wire::NumberStep;
 ghost use mathlib.Core.Path.{_≡_};
+ghost use Prim.Native.Nat.{_+_, _^_, _<_};
+ghost use Rattle.numbers.specs.Numbers.{trailer};
 ghost use Rattle.wire.specs.Reading.{tested};
 ghost use Rattle.wire.specs.Answers.{numberStep};
 ghost use Rattle.locator.specs.Locator.{storedAs, inFile, locator};
@@ -19,12 +21,19 @@ pub enum RangeStep {
     Refused(Fault),
 }
 
-// A locator whose stored size is the one that is due, and whose range is inside a file of `file` bytes.
-pub fn locator_at(s: &[u8], at: usize, file: u64, size: u64) -> RangeStep
-    ensures { λ r. ⌜ rangeStep r ≡ locator file size (now (s .entry)) at ⌝ }
+// A locator whose stored size is the one that is due, and whose range is inside a file of `file` bytes, with the checksum behind it if one
+// follows.
+pub fn locator_at(s: &[u8], at: usize, file: u64, size: u64, checksum: bool) -> RangeStep
+    ensures { λ r. ⌜ rangeStep r ≡ locator file size (trailer checksum) (now (s .entry)) at ⌝ }
 {
     match stored_size_at(s, at, size) {
-        NumberStep::Found(stored, offset_place) => match offset_at(s, offset_place, file, stored) {
+        NumberStep::Found(stored, offset_place) => match offset_at(
+            s,
+            offset_place,
+            file,
+            stored,
+            numbers::trailer_size(checksum) as u64,
+        ) {
             NumberStep::Found(offset, next) => RangeStep::Found(
                 Range {
                     size: stored,
@@ -51,12 +60,15 @@ fn stored_as(size: u64, word: u64) -> u16
     17
 }
 
-// The verdict on an offset: the range of `size` bytes from there on is inside the file. No sum is taken that could wrap.
-fn in_file(file: u64, size: u64, offset: u64) -> u16
-    ensures { λ r. ⌜ r ≡ inFile file size offset ⌝ }
+// The verdict on an offset: the range of `size` bytes from there on, with `behind` more behind it, is inside the file. No sum is taken
+// that could wrap.
+fn in_file(file: u64, size: u64, behind: u64, offset: u64) -> u16
+    requires { ⌜ size + behind < 2 ^ 64 ⌝ }
+    ensures { λ r. ⌜ r ≡ inFile file size behind offset ⌝ }
 {
-    if size <= file {
-        if offset <= file - size {
+    let length = size + behind;
+    if length <= file {
+        if offset <= file - length {
             return 0;
         }
         return 18;
@@ -73,15 +85,16 @@ fn stored_size_at(s: &[u8], at: usize, size: u64) -> NumberStep
     }
 }
 
-fn offset_at(s: &[u8], at: usize, file: u64, size: u64) -> NumberStep
-    ensures { λ r. ⌜ numberStep r ≡ tested 8 (inFile file size) (now (s .entry)) at ⌝ }
+fn offset_at(s: &[u8], at: usize, file: u64, size: u64, behind: u64) -> NumberStep
+    requires { ⌜ size + behind < 2 ^ 64 ⌝ }
+    ensures { λ r. ⌜ numberStep r ≡ tested 8 (inFile file size behind) (now (s .entry)) at ⌝ }
 {
     match wire::number_8(s, at) {
         NumberStep::Found(offset, next) => wire::judge(
             offset,
             at,
             next,
-            in_file(file, size, offset),
+            in_file(file, size, behind, offset),
         ),
         NumberStep::Refused(f) => NumberStep::Refused(f),
     }

@@ -1,4 +1,4 @@
--- Little-endian numbers in a list of bytes.
+-- Little-endian numbers in a list of bytes, and how many bytes a page has.
 use Prim.Native.Nat.{ℕ, zero, suc, _+_, _*_, _/_, _≤_}
 use mathlib.Core.Path.{_≡_}
 use mathlib.Core.Bool.{Bool, true}

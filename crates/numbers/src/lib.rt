@@ -1,4 +1,4 @@
-// Little-endian numbers of two, four and eight bytes.
+// Little-endian numbers of two, four and eight bytes, and the bytes of a page's checksum.
 ghost use mathlib.Core.Path.{_≡_};
 ghost use Prim.Native.Nat.{ℕ, _+_, _≤_, _<_};
 ghost use lib.ListN.{length};

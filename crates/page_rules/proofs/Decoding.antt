@@ -46,10 +46,6 @@ decode-numbers t n checksum page words start =
     (unless-by (unusedClear t n page) 24 (20 ∷ []) (accept n) _
     (unless-by (leb (start + n) words) 20 [] (accept n) (accept n) (inl refl)))))
 
-pub trailer-most : (b : Bool) → trailer b ≤ 4
-trailer-most true = omega arith
-trailer-most false = omega arith
-
 -- the tests of a decoding call that have passed
 
 pub record Sized (t n : ℕ) (checksum : Bool) (page : List ℕ) : Type 0 where

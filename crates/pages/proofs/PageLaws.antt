@@ -16,7 +16,7 @@ use Rattle.locator.proofs.Laws.{located-by}
 use Rattle.frames.specs.Frames.{items, listHead, listCount, listStop}
 use Rattle.frames.proofs.Laws.{count-zero}
 use Rattle.frames.proofs.Loops.{Reached, reached-none, reached-more, reached-all}
-use Rattle.numbers.specs.Numbers.{bytesFor}
+use Rattle.numbers.specs.Numbers.{bytesFor, trailer}
 use Rattle.pages.specs.Pages.{elementsIn, checksumIn, pageWord, page, runningTotal, elementsOf}
 use Rattle.pages.specs.Answers.{tallyOf}
 use Rattle.rows.specs.Words.{mostPages}
@@ -35,10 +35,10 @@ abbrev rowOf : ℕ → ℕ → ℕ → ℕ → Rule PageRow
 rowOf c word size offset = give (record { column = record { 0 = c }; elements = elementsIn word; checksum = checksumIn word; size = size; offset = offset })
 
 pub page-by : (file c bits : ℕ) (s : List ℕ) (at : ℕ) {word p : ℕ} → tested 4 pageWord s at ≡ found word p
-    → page file c bits s at ≡ after (λ (r : Range). give (record { column = record { 0 = c }; elements = elementsIn word; checksum = checksumIn word; size = r .size; offset = r .offset })) s (locator file (bytesFor (elementsIn word) bits) s p)
+    → page file c bits s at ≡ after (λ (r : Range). give (record { column = record { 0 = c }; elements = elementsIn word; checksum = checksumIn word; size = r .size; offset = r .offset })) s (locator file (bytesFor (elementsIn word) bits) (trailer (checksumIn word)) s p)
 unfolding page
 page-by file c bits s at {word} {p} e =
-    ap (after (λ w. located file (bytesFor (elementsIn w) bits) (rowOf c w)) s) e ∙ located-by file (bytesFor (elementsIn word) bits) (rowOf c word) s p
+    ap (after (λ w. located file (bytesFor (elementsIn w) bits) (trailer (checksumIn w)) (rowOf c w)) s) e ∙ located-by file (bytesFor (elementsIn word) bits) (trailer (checksumIn word)) (rowOf c word) s p
 
 elements-snoc : (done : List PageRow) (x : PageRow) → elementsOf (done ++ (x ∷ [])) ≡ elementsOf done + x .elements
 unfolding elementsOf

@@ -3,7 +3,7 @@ use Prim.Native.Nat.{ℕ, _+_, _/_, _%_, _^_}
 use mathlib.Core.List.{List, [], _∷_}
 use mathlib.Core.Bool.{Bool}
 use lib.Dec.{ltb, leb, eqb}
-use Rattle.numbers.specs.Numbers.{bytesFor}
+use Rattle.numbers.specs.Numbers.{bytesFor, trailer}
 use Rattle.wire.specs.Reading.{Step, Rule, _>>=_, give, tested, unless}
 use Rattle.locator.specs.Locator.{located}
 use Rattle.frames.specs.Frames.{items, listOf}
@@ -23,11 +23,12 @@ checksumIn word = eqb (word / 2 ^ 30) 1
 abbrev pub pageWord : ℕ → ℕ
 pageWord w = unless (ltb w (2 ^ 31)) 12 0
 
--- a page of column c, whose elements have so many bits: elements with two flags above them, then a locator
+-- a page of column c, whose elements have so many bits: elements with two flags above them, then a locator; the stored size has no part
+-- of a checksum behind the page, but that is inside the file too
 unfoldable pub page : ℕ → ℕ → ℕ → Rule PageRow
 page file c bits = do
   word ← tested 4 pageWord
-  located file (bytesFor (elementsIn word) bits) (λ size offset.
+  located file (bytesFor (elementsIn word) bits) (trailer (checksumIn word)) (λ size offset.
       give (record { column = record { 0 = c }; elements = elementsIn word; checksum = checksumIn word; size = size; offset = offset }))
 
 -- the pages of a column in a list at `list`, whose head was read

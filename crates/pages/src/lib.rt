@@ -70,12 +70,13 @@ pub fn page_at(s: &[u8], at: usize, column: ColumnNumber, bits: u16, file: u64) 
     match page_word_at(s, at) {
         NumberStep::Found(word, locator_place) => {
             let elements = word % 1073741824;
-            match locator::locator_at(s, locator_place, file, size_of(elements, bits)) {
+            let checksum = word / 1073741824 == 1;
+            match locator::locator_at(s, locator_place, file, size_of(elements, bits), checksum) {
                 RangeStep::Found(range, next) => PageStep::Found(
                     PageRow {
                         column,
                         elements,
-                        checksum: word / 1073741824 == 1,
+                        checksum,
                         size: range.size,
                         offset: range.offset,
                     },

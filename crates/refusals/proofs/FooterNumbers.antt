@@ -15,7 +15,7 @@ use Rattle.refusals.proofs.Naming.{Naming, unless-judged, last-judged, 
 
 naming-link : (file : ℕ) → Naming inFooter (link file)
 unfolding link among
-naming-link file = naming-bind _ _ (naming-number refl 4) (λ size. naming-located refl file size _ refl refl (λ stored offset. naming-give _))
+naming-link file = naming-bind _ _ (naming-number refl 4) (λ size. naming-located refl file size 0 _ refl refl (λ stored offset. naming-give _))
 
 naming-cluster : (file sum : ℕ) → Naming inFooter (cluster file sum)
 unfolding cluster among

@@ -159,11 +159,11 @@ module _ {ns : List ℕ} where
         by p (found v q) n = named-judged (verdict v) v q p Number (h v)
         by p (refused f) n = named-refused (n .number f refl)
 
-    pub naming-located : {A : Type 0} (file size : ℕ) (rest : ℕ → ℕ → Rule A) → among ns 17 ≡ true → among ns 18 ≡ true
-        → ((stored offset : ℕ) → Naming ns (rest stored offset)) → Naming ns (located file size rest)
-    naming-located file size rest h k n =
+    pub naming-located : {A : Type 0} (file size behind : ℕ) (rest : ℕ → ℕ → Rule A) → among ns 17 ≡ true → among ns 18 ≡ true
+        → ((stored offset : ℕ) → Naming ns (rest stored offset)) → Naming ns (located file size behind rest)
+    naming-located file size behind rest h k n =
         naming-bind _ _ (naming-tested 4 (storedAs size) (λ w. unless-judged (ltb w (2 ^ 31)) 17 (unless (eqb w size) 17 0) h (last-judged (eqb w size) 17 h))) (λ stored.
-        naming-bind _ _ (naming-tested 8 (inFile file stored) (λ o. last-judged (leb (o + stored) file) 18 k)) (λ offset. n stored offset))
+        naming-bind _ _ (naming-tested 8 (inFile file stored behind) (λ o. last-judged (leb (o + stored + behind) file) 18 k)) (λ offset. n stored offset))
 
     pub naming-string : among ns 9 ≡ true → Naming ns string
     unfolding string among

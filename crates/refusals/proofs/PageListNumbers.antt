@@ -23,7 +23,7 @@ naming-page : (file c bits : ℕ) → Naming inPageList (page file c bits)
 unfolding page among
 naming-page file c bits =
     naming-bind _ _ (naming-tested refl 4 pageWord (λ w. last-judged (ltb w (2 ^ 31)) 12 refl)) (λ word.
-    naming-located refl file (bytesFor (elementsIn word) bits) _ refl refl (λ size offset. naming-give _))
+    naming-located refl file (bytesFor (elementsIn word) bits) _ _ refl refl (λ size offset. naming-give _))
 
 naming-pages : (strict : Bool) (file c bits sum : ℕ) → Naming inPageList (pages strict file c bits sum)
 unfolding pages among

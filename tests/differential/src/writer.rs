@@ -162,6 +162,13 @@ pub struct Page {
     pub offset: u64,
 }
 
+impl Page {
+    /// Its bytes in the file, with the check bytes behind it.
+    pub fn bytes(&self) -> u64 {
+        u64::from(self.size) + if self.checksum { 4 } else { 0 }
+    }
+}
+
 /// Puts the checksum of an envelope right.
 pub fn seal(envelope: &mut [u8]) {
     if let Some(content) = envelope.len().checked_sub(4) {

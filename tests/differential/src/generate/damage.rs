@@ -126,7 +126,8 @@ fn wrong(random: &mut Random, old: u64, part: Part) -> u64 {
             2 => random.number(),
             _ => near(random, old),
         },
-        (Part::Offset, 0) => old.wrapping_add(1 + random.below(3)),
+        // At the file's end also a page whose check bytes alone are outside.
+        (Part::Offset, 0) => old.wrapping_add(1 + random.below(5)),
         (Part::Offset, 1) => u64::MAX - random.below(3),
         (_, _) => random.number(),
     }

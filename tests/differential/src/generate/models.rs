@@ -328,10 +328,10 @@ pub fn page_list(random: &mut Random, header: &Header) -> (PageList, u64, u64) {
             }
         })
         .collect();
-    let largest = columns.iter().flat_map(|list| &list.items).map(|page| page.size).max();
-    let file_length = file_length(random, largest.map_or(0, u64::from));
+    let largest = columns.iter().flat_map(|list| &list.items).map(Page::bytes).max();
+    let file_length = file_length(random, largest.unwrap_or(0));
     for page in columns.iter_mut().flat_map(|list| &mut list.items) {
-        page.offset = offset(random, u64::from(page.size), file_length);
+        page.offset = offset(random, page.bytes(), file_length);
     }
     let columns = List {
         items: columns,

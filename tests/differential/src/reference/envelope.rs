@@ -152,15 +152,16 @@ impl<'a> Container<'a> {
         Ok((content, count))
     }
 
-    /// A locator whose stored size has to be `size`; gives its offset.
+    /// A locator whose stored size has to be `size`, of a range that has to lie
+    /// inside the file with the `behind` bytes that follow it; gives its offset.
     #[inline(always)]
-    pub fn locator(&mut self, size: u64, file_length: u64) -> Result<u64, Number> {
+    pub fn locator(&mut self, size: u64, behind: u64, file_length: u64) -> Result<u64, Number> {
         let stored = self.u32()?;
         if stored >> 31 != 0 || u64::from(stored) != size {
             return Err(17);
         }
         let offset = self.u64()?;
-        match offset.checked_add(size) {
+        match offset.checked_add(size + behind) {
             Some(end) if end <= file_length => Ok(offset),
             _ => Err(18),
         }
@@ -169,7 +170,7 @@ impl<'a> Container<'a> {
     /// A link; gives its size and offset.
     pub fn link(&mut self, file_length: u64) -> Result<(u32, u64), Number> {
         let size = self.u32()?;
-        let offset = self.locator(u64::from(size), file_length)?;
+        let offset = self.locator(u64::from(size), 0, file_length)?;
         Ok((size, offset))
     }
 

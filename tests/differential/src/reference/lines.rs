@@ -372,6 +372,58 @@ fn ranges() {
 }
 
 #[test]
+fn check_bytes() {
+    let mut header = fields(&[0]);
+    header.columns.items = vec![writer::Column {
+        column_type: 0x11,
+        bits: 32,
+        ..Default::default()
+    }];
+    let mut list = writer::PageList::default();
+    let page = |elements, checksum, offset| writer::Page {
+        elements,
+        checksum,
+        size: 4 * elements,
+        offset,
+    };
+    let most = (1 << 29) - 1;
+    for (page, file_length, number) in [
+        (page(5, true, 76), 100, 0),
+        (page(5, true, 77), 100, 18),
+        (page(5, true, 80), 100, 18),
+        (page(5, true, 81), 100, 18),
+        (page(5, false, 80), 100, 0),
+        (page(5, false, 81), 100, 18),
+        (page(5, true, 76), 99, 18),
+        (page(5, true, 76), 96, 18),
+        (page(0, true, 0), 4, 0),
+        (page(0, true, 0), 3, 18),
+        (page(0, true, 0), 0, 18),
+        (page(0, false, 0), 0, 0),
+        (page(0, true, u64::MAX - 4), u64::MAX, 0),
+        (page(0, true, u64::MAX - 3), u64::MAX, 18),
+        (page(0, true, u64::MAX), u64::MAX, 18),
+        (page(0, false, u64::MAX), u64::MAX, 0),
+        (page(most, true, 0), 1 << 31, 0),
+        (page(most, true, 0), (1 << 31) - 1, 18),
+        (page(most, true, 1 << 31), 1 << 32, 0),
+        (page(most, true, 1 << 31), (1 << 32) - 1, 18),
+        (page(most, true, u64::MAX - (1 << 31)), u64::MAX, 0),
+        (page(most, true, u64::MAX - (1 << 31) + 1), u64::MAX, 18),
+    ] {
+        list.columns.items = vec![writer::List {
+            items: vec![page],
+            spare: 0,
+        }];
+        let expected = if number == 0 { 0 } else { refusal(PAGE_LIST, number) };
+        assert_eq!(
+            page_list_answer(&header, &list, u64::from(page.elements), file_length),
+            expected
+        );
+    }
+}
+
+#[test]
 fn entry_counts() {
     let mut footer = writer::Footer::default();
     let cluster = |first, entries| writer::Cluster {

@@ -40,8 +40,10 @@ pub fn read(header: &Header, bytes: &[u8], entries: u64, file_length: u64) -> Re
             let elements = word & 0x3FFF_FFFF;
             // For a known type its record's bits are the type's.
             let size = (u64::from(elements) * u64::from(column.bits)).div_ceil(8);
-            let offset = list.locator(size, file_length)?;
             let checksum = word >> 30 != 0;
+            // The four check bytes are not in the size, but in the file.
+            let behind = if checksum { 4 } else { 0 };
+            let offset = list.locator(size, behind, file_length)?;
             pages.push(Page {
                 column: number as u32,
                 elements,

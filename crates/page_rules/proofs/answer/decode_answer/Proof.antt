@@ -7,7 +7,8 @@ use denote.Ref.{now}
 use borrow.Author.Tests.{not-true, not-false}
 use Rattle.numbers.specs.Numbers.{trailer}
 use Rattle.page_rules.specs.Page.{readable, sizeOf, checksumRight}
-use Rattle.page_rules.proofs.Decoding.{trailer-most, Sized, refused-23, refused-10, refused-21, refused-22, refused-24, refused-20, accepted}
+use Rattle.numbers.proofs.Numbers.{trailer-most}
+use Rattle.page_rules.proofs.Decoding.{Sized, refused-23, refused-10, refused-21, refused-22, refused-24, refused-20, accepted}
 use Rattle.page_rules.proofs.answer.decode_answer.Statement.{statement}
 use borrow.Author.Needs.{needs}
 use Rattle.page_rules.proofs.answer.decode_answer.Tie as tie

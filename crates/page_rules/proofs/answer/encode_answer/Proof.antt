@@ -2,7 +2,7 @@
 use borrow.Author.Tests.{not-true, not-false, leb-true}
 use lib.Dec.{leb}
 use Rattle.page_rules.proofs.Types.{width-most}
-use Rattle.page_rules.proofs.Decoding.{trailer-most}
+use Rattle.numbers.proofs.Numbers.{trailer-most}
 use Rattle.page_rules.proofs.Encoding.{Asked, refused-23, refused-10, refused-words, refused-room, refused-25, accepted, part-is}
 use Rattle.column_type.specs.Types.{widthOf}
 use Rattle.numbers.specs.Numbers.{trailer}
