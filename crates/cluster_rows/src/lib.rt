@@ -85,7 +85,9 @@ pub fn put_page(table: &mut [u64], i: usize, row: PageRow)
             row.size,
             row.offset,
         ];
-        rows::put_words(table, PAGE_WORDS * i, &words);
+        // Into a part that has just their number, words are written with no further test of the room.
+        let at = PAGE_WORDS * i;
+        rows::put_words(&mut table[at..at + PAGE_WORDS], 0, &words);
     }
 }
 

@@ -1,8 +1,11 @@
-use Prim.Native.Nat.{_+_, _*_}
+use Prim.Native.Nat.{_+_, _*_, _-_}
+use mathlib.Core.Path.{ap, _∙_}
 use native.Mathlib.Omega.{arith}
 use borrow.Author.Tests.{lt-leb}
+use borrow.Rule.Slice.PartMut.{putMid}
 use lib.ListN.{length}
 use Rattle.numbers.specs.Rows.{put}
+use Rattle.numbers.proofs.Parts.{put-part}
 use borrow.Author.Needs.{needs}
 use Rattle.cluster_rows.proofs.put_page.Statement.{statement}
 use Rattle.cluster_rows.proofs.put_page.Tie as tie
@@ -10,8 +13,23 @@ use Rattle.cluster_rows.proofs.put_page.Tie as tie
 bit-requires : tie.Need-bit-requires
 bit-requires c κs = search needs
 
+mul-at : tie.Need-mul-at
+mul-at c = search needs
+
+add-put-words : tie.Need-add-put-words
+add-put-words c = search needs
+
 mul-put-words : tie.Need-mul-put-words
 mul-put-words c = search needs
+
+sub-put-words : tie.Need-sub-put-words
+sub-put-words c = search needs
+
+part-put-words-start : tie.Need-part-put-words-start
+part-put-words-start c = search needs
+
+part-put-words-end : tie.Need-part-put-words-end
+part-put-words-end c = search needs
 
 slice-aggregate-put-words : tie.Need-slice-aggregate-put-words
 slice-aggregate-put-words c = search needs
@@ -23,7 +41,10 @@ same-length : tie.Need-same-length
 same-length c = search needs
 
 returns : tie.Need-returns
-returns c = rw (← c .before .before .before .before .before .bit .ensures) (c .before .before .put-words .ensures)
+returns c =
+    let a = c .before .before .before .before .before .before .before .before .before .args in
+    let at = 5 * a .i in
+    rw (← c .before .before .before .before .before .bit .ensures) (ap (putMid at (at + 5 - at) (a .table .now)) (c .before .before .put-words .ensures) ∙ put-part (a .table .now) at (at + 5 - at) _ (omega arith) (omega arith))
 
 returns-2 : tie.Need-returns-2
 unfolding put
@@ -34,7 +55,12 @@ put-page-spec =
     tie.close
     (tie.spec
     bit-requires
+    mul-at
+    add-put-words
     mul-put-words
+    sub-put-words
+    part-put-words-start
+    part-put-words-end
     slice-aggregate-put-words
     put-words-requires
     same-length
