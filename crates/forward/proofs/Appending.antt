@@ -29,7 +29,7 @@ use Rattle.header.specs.declared.HeaderTables.{HeaderTables}
 use Rattle.tree.specs.Shape.{chars, Shape, Framed, ValidItems, recordShape}
 use Rattle.tree.specs.HeaderTree.{FieldContent, HeaderContent, PayloadContent, headShape, fieldShape, columnShape, aliasShape, flagsIn, parentsIn, fieldContent, headerContent, listsShape, payloadShape, headerCarrier, HeaderTree, renderHeader, tablesOf, RightHeader}
 use Rattle.numbers.proofs.Choice.{both-true, both-false}
-use Rattle.numbers.proofs.Lists.{each-append, each-weaken, each-map}
+use Rattle.numbers.proofs.Lists.{each-append, each-weaken, each-map, each-at}
 use Rattle.tree.proofs.HeaderLaws.{header-complete, tables-known, parents-same}
 use Rattle.forward.specs.SameTables.{fieldSays, fieldRow}
 use Rattle.forward.specs.HeaderAppend.{appended, SelfParented, Appendix, HeaderAppend}
@@ -133,9 +133,9 @@ appended-valid c ns ks v vn vk few few′ =
 -- parents
 
 parent-at : (n : ℕ) (fs : List FieldContent) → Each (λ (c : FieldContent). c .head .parent .0 < n) fs → (f : ℕ) → f < length fs → getD (parentsIn fs) f 0 < n
-parent-at n [] a f h = absurd (omega arith)
-parent-at n (c ∷ fs) a zero h = a .0
-parent-at n (c ∷ fs) a (suc f) h = parent-at n fs (a .1) f (omega arith)
+parent-at n fs a f h =
+    let parent : FieldContent → ℕ = λ c. c .head .parent .0 in
+    each-at (λ (p : ℕ). p < n) (parentsIn fs) 0 f (each-map (λ (p : ℕ). p < n) parent fs a) (omega (arith, h, length-map fs parent))
 
 own-parents : (n : ℕ) (fields : List (Framed FieldContent)) → SelfParented n fields → (i : ℕ) → i < length fields
     → getD (parentsIn (map (λ (f : Framed FieldContent). f .inside) fields)) i 0 ≡ n + i

@@ -16,7 +16,7 @@ use Rattle.frames.specs.declared.FrameSize.{FrameSize}
 use Rattle.frames.specs.declared.FrameSize.the-variants.{RecordSize, ListSize}
 use Rattle.wire.specs.Reading.{Step, found, refused, Rule, mapped, fault, counted}
 use Rattle.frames.specs.Frames.{frameSize, recordHead, recordOf, listEnd, listStop, countJudged, closedBy, closed, spare, atMost}
-use Rattle.wire.proofs.Laws.{never}
+use Rattle.wire.proofs.Laws.{never, passed}
 
 -- a step that is found has at least 8 bytes from a place on
 abbrev pub Eight : List ℕ → ℕ → Step ℕ → Type 0
@@ -53,16 +53,6 @@ counted-closed mark strict stop (found rows p) = by (spare strict p stop)
     by false = refl
 counted-closed mark strict stop (refused f) = refl
 
--- a count that was accepted is at most the most
-pub count-most : (most at : ℕ) {h : ListHead} {p : ℕ} (x : Step ListHead) → countJudged (atMost most) at x ≡ found h p → h .count ≤ most
-unfolding countJudged
-count-most most at {h} {p} (found v q) e = by (leb (v .count) most) refl e
-  where
-    by : (b : Bool) → leb (v .count) most ≡ b → pick {A = Step ListHead} (eqb (pick b 0 10) 0) (found v q) (refused (fault (pick b 0 10) Frame at)) ≡ found h p → h .count ≤ most
-    by true e g = let same : v ≡ h = cc in rw same at (leb-true (v .count) most e)
-    by false e g = let z : _≡_ {A = ℕ} 0 1 = cc in absurd (omega arith)
-count-most most at (refused f) e = let z : _≡_ {A = ℕ} 0 1 = cc in absurd (omega arith)
-
 -- a content whose container was closed
 pub record Closed {A : Type 0} (x : Step A) (a : A) : Type 0 where
   pub end : ℕ
@@ -85,6 +75,9 @@ count-zero verdict at (found v q) {h} {p} e = by (eqb (verdict (v .count)) 0) re
     by true g w = let same : v ≡ h = cc in rw same at (eqb-true (verdict (v .count)) 0 g)
     by false g w = never w
 count-zero verdict at (refused f) e = never e
+
+pub count-most : (most at : ℕ) {h : ListHead} {p : ℕ} (x : Step ListHead) → countJudged (atMost most) at x ≡ found h p → h .count ≤ most
+count-most most at {h} x e = leb-true (h .count) most (passed (leb (h .count) most) 9 0 (count-zero (atMost most) at x e) .0)
 
 -- changing the value and closing commute
 pub mapped-closed : {A B : Type 0} (f : A → B) (mark : Fault → Fault) (strict : Bool) (stop : ℕ) (x : Step A) → mapped f (closedBy mark strict stop x) ≡ closedBy mark strict stop (mapped f x)

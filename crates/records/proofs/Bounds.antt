@@ -1,7 +1,7 @@
 -- The numbers of a record that was found: a parent and a column's field are below the count of fields, and a column's bits are a
 -- number of two bytes.
 use Prim.Native.Nat.{ℕ, zero, suc, _+_, _^_, _<_}
-use mathlib.Core.Path.{_≡_, refl}
+use mathlib.Core.Path.{_≡_}
 use mathlib.Core.Bool.{Bool, true, false}
 use mathlib.Core.List.{List, [], _∷_}
 use native.Mathlib.Omega.{arith}
@@ -12,7 +12,7 @@ use Rattle.numbers.specs.Choice.{pick}
 use Rattle.numbers.specs.Numbers.{little}
 use Rattle.wire.specs.declared.Kind.the-variants.{Number}
 use Rattle.wire.specs.Reading.{Step, found, refused, Rule, _>>=_, give, fault, number, judged, tested, below, listed}
-use Rattle.wire.proofs.Laws.{never, bound}
+use Rattle.wire.proofs.Laws.{never, passed, bound, judged-zero}
 use Rattle.records.specs.Records.{fieldHead, fieldTexts, field, column, repetition, sized}
 use Rattle.rows.specs.declared.FieldHead.{FieldHead}
 use Rattle.rows.specs.declared.FieldRow.{FieldRow}
@@ -20,13 +20,7 @@ use Rattle.rows.specs.declared.ColumnRow.{ColumnRow}
 
 -- a number that was found below a limit
 pub below-limit : (limit at : ℕ) (x : Step ℕ) {v p : ℕ} → judged (below limit) at x ≡ found v p → v < limit
-unfolding judged
-below-limit limit at (found w q) {v} {p} e = by (ltb w limit) refl e
-  where
-    by : (b : Bool) → ltb w limit ≡ b → pick {A = Step ℕ} (eqb (pick b 0 14) 0) (found w q) (refused (fault (pick b 0 14) Number at)) ≡ found v p → v < limit
-    by true g h = let same : w ≡ v = cc in rw same at (ltb-true w limit g)
-    by false g h = never h
-below-limit limit at (refused f) e = never e
+below-limit limit at x {v} e = ltb-true v limit (passed (ltb v limit) 13 0 (judged-zero (below limit) at x e) .0)
 
 -- a field's parent
 

@@ -1,5 +1,5 @@
 -- Each page of an accepted page list is inside the file, with the check bytes behind it.
-use Prim.Native.Nat.{ℕ, zero, suc, _+_, _<_}
+use Prim.Native.Nat.{ℕ, suc, _+_, _<_}
 use mathlib.Core.List.{List, [], _∷_, _++_, map, flatten}
 use mathlib.Core.Path.{_≡_, refl, sym, ap, _∙_, subst}
 use native.Mathlib.Omega.{arith}
@@ -8,7 +8,7 @@ use lib.Dec.{leb}
 use borrow.Author.Tests.{leb-true}
 use Rattle.numbers.specs.Lists.{Each}
 use Rattle.numbers.specs.Numbers.{trailer}
-use Rattle.numbers.proofs.Lists.{each-append}
+use Rattle.numbers.proofs.Lists.{each-flat, each-at}
 use Rattle.wire.proofs.Laws.{passed}
 use Rattle.outcome.specs.Outcome.{isAccepted}
 use Rattle.rows.specs.Tables.{pageRow}
@@ -45,18 +45,7 @@ module _ (file : ℕ) where
   columns-inside bits i done [] v = tt
   columns-inside bits i done (ps ∷ pss) v = (column-inside i (getD bits (length done) 0) [] ps (v .0 .2), columns-inside bits (suc i) _ pss (v .1))
 
--- lists of lists, as one list
-
-each-flat : {A : Type 0} (P : A → Type 0) (xss : List (List A)) → Each (Each P) xss → Each P (flatten xss)
-unfolding flatten
-each-flat P [] e = tt
-each-flat P (xs ∷ xss) e = each-append P xs (flatten xss) (e .0) (each-flat P xss (e .1))
-
-each-at : {A : Type 0} (P : A → Type 0) (xs : List A) (other : A) (i : ℕ) → Each P xs → i < length xs → P (getD xs i other)
-each-at P [] other i e h = absurd (omega arith)
-each-at P (x ∷ xs) other zero e h = e .0
-each-at P (x ∷ xs) other (suc i) e h = each-at P xs other i (e .1) (omega arith)
-
+-- how many pages there are in all
 flat-long : (pss : List (List PageRow)) → length (flatten pss) ≡ pagesOf pss
 unfolding flatten pagesOf
 flat-long [] = refl
