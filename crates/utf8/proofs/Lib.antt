@@ -1,0 +1,11 @@
+pub mod Rows
+pub mod Places
+pub mod Ascii
+pub mod Reading
+pub mod BlockLaws
+pub mod Bits
+pub mod Second
+pub mod Encodings
+pub mod Decoding
+pub mod Exactly
+pub mod Cases

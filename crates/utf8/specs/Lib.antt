@@ -1,0 +1,4 @@
+pub mod WellFormed
+pub mod Walking
+pub mod Scalars
+pub mod Cases
