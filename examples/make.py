@@ -14,7 +14,8 @@ def envelope(payload, version=1, minimum=1):
 
 
 def string(text):
-    return struct.pack("<I", len(text)) + text.encode("ascii")
+    content = text.encode() if isinstance(text, str) else text
+    return struct.pack("<I", len(content)) + content
 
 
 def record(content, spare=b""):
@@ -98,6 +99,15 @@ FIELDS_FOOTER = envelope(
     + items([record(struct.pack("<QQ", 0, 3) + link(len(FIELDS_PAGE_LIST), 512))])
     + items([link(16, 4080)]))
 
+
+def alphabets_header(name):
+    """Names of fields in other alphabets."""
+    fields = [field(0, 0, name, "float"), field(1, 0, "θ", "double"), field(2, 0, "検出器", "std::int32_t")]
+    columns = [column(0x11, 32, 0), column(0x10, 64, 1), column(0x1B, 32, 2)]
+    payload = FEATURES + string("Zähler") + string("события детектора")
+    return envelope(payload + items(fields) + items(columns) + items([]))
+
+
 EXAMPLES = {
     "smallest.header": SMALLEST_HEADER,
     "smallest.footer": SMALLEST_FOOTER,
@@ -107,6 +117,8 @@ EXAMPLES = {
     "fields.pagelist": FIELDS_PAGE_LIST,
     "newer.header": fields_header(2, b"new"),
     "damaged.header": flipped(FIELDS_HEADER, 16),
+    "alphabets.header": alphabets_header("энергия"),
+    "surrogate.header": alphabets_header(b"\xed\xa0\x80"),
 }
 
 if __name__ == "__main__":

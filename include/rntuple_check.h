@@ -21,7 +21,7 @@
  *    6  feature bit set, other than bit 63
  *    7  number, string or frame runs past its container
  *    8  wrong frame kind, size below its own head, reserved bits set
- *    9  string byte above 127
+ *    9  string is not well-formed UTF-8
  *   10  count above a ceiling
  *   11  unexplained bytes after the last known content while version equals
  *       minimum
@@ -173,6 +173,12 @@ uint32_t rnt_encode_page(uint32_t column_type, uint64_t elements,
  * and final inversion FFFFFFFF). Of the digits 1 to 9 it is CBF43926.
  */
 uint32_t rnt_crc32(const uint8_t *bytes, size_t length);
+
+/*
+ * Whether the bytes are well-formed UTF-8, as a header's strings have to be:
+ * 1 or 0. Bytes of 0 are characters like others, and no bytes are well-formed.
+ */
+uint32_t rnt_is_utf8(const uint8_t *bytes, size_t length);
 
 #ifdef __cplusplus
 }

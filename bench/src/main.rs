@@ -1,5 +1,5 @@
-//! The library beside the fastest of zlib, plain C, plain Rust and the
-//! independent reader, and beside memcpy of what it writes.
+//! The library beside the fastest of zlib, plain C, plain Rust, Rust's standard
+//! library and the independent reader, and beside memcpy of what it writes.
 
 use differential::generate::random::Random;
 use differential::reference::pages::stored_bits;
@@ -152,6 +152,67 @@ fn checksums(random: &mut Random) {
     }
 }
 
+/// So many bytes of characters, spaces after the last whole one.
+fn filled(length: usize, mut next: impl FnMut() -> String) -> Vec<u8> {
+    let mut text = String::new();
+    loop {
+        let word = next();
+        if text.len() + word.len() > length {
+            text.extend(std::iter::repeat_n(' ', length - text.len()));
+            return text.into_bytes();
+        }
+        text.push_str(&word);
+    }
+}
+
+/// Letters from this one on, among so many.
+fn letters(random: &mut Random, first: u32, count: u64, length: usize) -> String {
+    (0..length)
+        .map(|_| char::from_u32(first + random.below(count) as u32).expect("a letter"))
+        .collect()
+}
+
+/// Words of several alphabets in any order.
+fn mixed_word(random: &mut Random) -> String {
+    let length = 1 + random.index(9);
+    let word = match random.below(6) {
+        0 => letters(random, 0x430, 32, length),
+        1 => letters(random, 0x3B1, 17, length),
+        2 => letters(random, 0x4E00, 0x5000, length),
+        3 => letters(random, 0x1F300, 0x100, 1),
+        _ => letters(random, 0x61, 26, length),
+    };
+    word + " "
+}
+
+const LINE: &str = "Zähler für Ereignisse, αβγ, детектор, 検出器 \u{1F6F0}, detector of events in run 42; ";
+
+fn strings(random: &mut Random) {
+    let length = 65_536;
+    let ascii = text(random, length);
+    let repeated = filled(length, || LINE.to_string());
+    let mixed = filled(length, || mixed_word(random));
+    let cyrillic = filled(length, || letters(random, 0x430, 32, 7) + " ");
+    let han = filled(length, || letters(random, 0x4E00, 0x5000, 5));
+    for (name, bytes) in [
+        ("ASCII", ascii),
+        ("mixed, one line", repeated),
+        ("mixed words", mixed),
+        ("Cyrillic", cyrillic),
+        ("Han", han),
+    ] {
+        let times = contest(
+            &mut false,
+            &|good| *good = calls::is_utf8(black_box(&bytes)) == 1,
+            &[("from_utf8", &|good| {
+                *good = std::str::from_utf8(black_box(&bytes)).is_ok()
+            })],
+            0,
+        );
+        line(&format!("UTF-8 {name}"), gigabytes(length, times.ours), &times, false);
+    }
+}
+
 fn pages(random: &mut Random) {
     let count = ELEMENTS as u64;
     let mut words = vec![0; ELEMENTS];
@@ -206,8 +267,13 @@ fn text(random: &mut Random, length: usize) -> Vec<u8> {
     (0..length).map(|_| b'a' + random.below(26) as u8).collect()
 }
 
+/// Cyrillic letters, in about so many bytes.
+fn cyrillic(random: &mut Random, length: usize) -> Vec<u8> {
+    letters(random, 0x430, 32, length / 2).into_bytes()
+}
+
 /// A header at its ceilings, with strings as they are found in data.
-fn largest_header(random: &mut Random) -> Vec<u8> {
+fn largest_header(random: &mut Random, text: fn(&mut Random, usize) -> Vec<u8>) -> Vec<u8> {
     let mut header = writer::Header {
         name: text(random, 20),
         description: text(random, 60),
@@ -282,7 +348,12 @@ fn small_header(random: &mut Random) -> Vec<u8> {
 /// has.
 fn header_times(envelope: &[u8]) -> (Times, [u64; 3]) {
     let mut tables = (vec![0; 512 * 15], vec![0; 1_024 * 4], vec![0; 256 * 2], [0; 7]);
-    let (_, words) = reference::read_header(envelope, &mut tables.0.clone(), &mut tables.1.clone(), &mut tables.2.clone());
+    let (_, words) = reference::read_header(
+        envelope,
+        &mut tables.0.clone(),
+        &mut tables.1.clone(),
+        &mut tables.2.clone(),
+    );
     let counts = [words[4], words[5], words[6]];
     let times = contest(
         &mut tables,
@@ -307,15 +378,14 @@ fn headers(random: &mut Random) {
     let (times, _) = header_times(&envelope);
     let name = format!("read header, {} B", envelope.len());
     line(&name, per_call(times.ours), &times, true);
-    let envelope = largest_header(random);
-    let (times, counts) = header_times(&envelope);
-    assert_eq!(counts, [512, 1_024, 256]);
-    line(
-        "read header, largest",
-        gigabytes(envelope.len(), times.ours),
-        &times,
-        true,
-    );
+    let alphabets: [(&str, fn(&mut Random, usize) -> Vec<u8>); 2] =
+        [("read header, largest", text), ("the same in Cyrillic", cyrillic)];
+    for (name, text) in alphabets {
+        let envelope = largest_header(random, text);
+        let (times, counts) = header_times(&envelope);
+        assert_eq!(counts, [512, 1_024, 256]);
+        line(name, gigabytes(envelope.len(), times.ours), &times, true);
+    }
 }
 
 fn footers(random: &mut Random) {
@@ -432,15 +502,14 @@ fn main() -> ExitCode {
     println!(
         "\"fastest other\" is the fastest of: zlib and Rust slicing by 16 for crc32; plain C and plain Rust loops for"
     );
+    println!("pages; Rust's own test for UTF-8 (64 KiB each); the independent Rust reader for envelopes. \"ratio\" is its time");
     println!(
-        "pages; the independent Rust reader for envelopes. \"ratio\" is its time as a part of the library's: above 1"
+        "as a part of the library's: above 1 the library is faster. \"memcpy\" is that of copying as many bytes as the"
     );
     println!(
-        "the library is faster. \"memcpy\" is that of copying as many bytes as the library writes, which is about the"
+        "library writes, which is about the limit; it reads as many, a decoder of narrow elements fewer. Pages have"
     );
-    println!(
-        "limit; it reads as many, a decoder of narrow elements fewer. Pages have {ELEMENTS} elements and no checksum."
-    );
+    println!("{ELEMENTS} elements and no checksum.");
     println!("A reader's bytes are those of all envelopes it reads.");
     println!();
     println!("{:<26} {:>16} {:>10}", "", "", "fastest");
@@ -450,6 +519,7 @@ fn main() -> ExitCode {
     );
     let mut random = Random::new(1);
     checksums(&mut random);
+    strings(&mut random);
     pages(&mut random);
     headers(&mut random);
     footers(&mut random);

@@ -121,6 +121,14 @@ header_refused(20, "header_room_for_no_column", TWO_FIELDS, (30, 3, 2))
 header_refused(20, "header_room_for_no_alias", TWO_FIELDS, (30, 4, 1))
 header_refused(15, "header_chains_before_room", header([field(1), field(0)]), (0, 0, 0))
 
+# Places and lengths count bytes: Zähler has 7 at 16, 検出器 9 at 27, and the field's name θ 2 at 68, its empty strings at 74, 78 and 82.
+ALPHABETS = header([field(0, name="θ".encode())], name="Zähler".encode(), description="検出器".encode())
+header_accepted("header_alphabets", ALPHABETS, (15, 4, 2), (1, 0, 0, 16, 7, 27, 9), ([1, 2, 0, 0, 0, 0, 68, 2, 74, 0, 78, 0, 82, 0, 0], (), ()))
+header_refused(9, "header_name_cut_in_a_sequence", header([field(0, name="θ".encode()[:1])]), (15, 4, 2))
+header_refused(9, "header_characters_before_room", header([field(0, name=b"\xed\xa0\x80")]), (0, 0, 0))
+header_refused(9, "header_characters_before_chains", header([field(1), field(0, name=b"\xc0\x80")]))
+header_refused(14, "header_parent_before_characters", header([field(1, name=b"\xff")]))
+
 # Footers.
 
 
@@ -243,6 +251,7 @@ footer_spare("metadata", (0, 2), (0, 1), ((), (7, 8)), metadata=items([link(7, 8
 # The header's refusal comes before all of the footer's.
 footer_refused(3, "footer_beside_a_header_checksum_bit", SMALLEST_FOOTER, beside=flipped(SMALLEST, 47), place=1)
 footer_refused(15, "footer_beside_a_circle", b"", beside=header([field(1), field(0)]), place=1)
+footer_refused(9, "footer_beside_an_ill_formed_name", SMALLEST_FOOTER, beside=header(name=b"\xf4\x90\x80\x80"), place=1)
 footer_refused(1, "footer_beside_1048577_bytes", SMALLEST_FOOTER, beside=b"", place=1, zeros_for=1, zeros=LONGEST + 1)
 
 # Page lists.
@@ -398,6 +407,7 @@ pages_spare("inner", items([items([page(5, 20, 3)], spare=SPARE)]), beside=ONE, 
 # The header's refusal comes before all of the page list's.
 pages_refused(3, "pages_beside_a_header_checksum_bit", SMALLEST_PAGE_LIST, flipped(SMALLEST, 47), place=1)
 pages_refused(14, "pages_beside_parent_1_of_one", b"", header([field(1)]), place=1)
+pages_refused(9, "pages_beside_an_ill_formed_name", SMALLEST_PAGE_LIST, header([field(0, name=b"\xf5")]), place=1)
 pages_refused(1, "pages_beside_1048577_bytes", SMALLEST_PAGE_LIST, b"", place=1, zeros_for=1, zeros=LONGEST + 1)
 
 # Pages to decode: `words` are lent, and the elements are put from `start` on.

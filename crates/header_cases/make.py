@@ -129,6 +129,65 @@ refused(9, "name_byte_128", envelope(u64(0) + string(b"a\x80") + string() + EMPT
 refused(9, "description_byte_255", envelope(u64(0) + string(b"name") + string(b"\xff") + EMPTY * 3))
 refused(7, "description_missing", envelope(u64(0) + string(b"name")))
 
+
+# Strings are well-formed UTF-8: the first and the last sequence of each row of the Unicode Standard's Table 3-7, and what stands beside them.
+def named(name, description=b""):
+    return envelope(u64(0) + string(name) + string(description) + EMPTY * 3)
+
+
+ROW_ENDS = (
+    "00 7f c2.80 df.bf e0.a0.80 e0.bf.bf e1.80.80 ec.bf.bf ed.80.80 ed.9f.bf ee.80.80 ef.bf.bf "
+    "f0.90.80.80 f0.bf.bf.bf f1.80.80.80 f3.bf.bf.bf f4.80.80.80 f4.8f.bf.bf"
+)
+ILL_FORMED = (
+    # overlong forms of 2, 3 and 4 bytes
+    "c0.80 c1.bf e0.80.80 e0.9f.bf f0.80.80.80 f0.8f.bf.bf "
+    # the first and the last surrogate
+    "ed.a0.80 ed.bf.bf "
+    # 110000, and first bytes that no sequence has
+    "f4.90.80.80 f5.80.80.80 f6.80.80.80 f7.bf.bf.bf f8.88.80.80.80 f9.80.80.80 fa.80.80.80 fb.bf.bf.bf fc.84.80.80.80.80 fd.bf.bf.bf fe ff "
+    # a continuation byte with no sequence that it continues
+    "80 bf 41.80 c2.80.80 e1.80.80.80 f1.80.80.80.80 "
+    # cut off by the end of the string
+    "c2 e1 e1.80 f1 f1.80 f1.80.80 41.c2 "
+    # cut off by the next sequence, and each continuation byte below and above its range
+    "c2.41 c2.c2.80 c2.7f df.c0 e1.41.80 e1.80.41 e1.80.7f e1.80.c0 e1.7f.80 e1.c0.80 f1.41.80.80 f1.80.41.80 f1.80.80.41 f1.80.c0.80 f1.80.80.c0 f1.80.80.7f"
+)
+
+
+def sequences(text):
+    for sequence in text.split():
+        yield sequence.replace(".", "_"), bytes.fromhex(sequence.replace(".", ""))
+
+
+for label, characters in sequences(ROW_ENDS):
+    accepted(f"utf8_{label}", named(characters))
+for label, characters in sequences(ILL_FORMED):
+    refused(9, f"utf8_{label}", named(characters))
+# the next string's bytes, or those of the frame after it, would complete the sequence
+refused(9, "utf8_completed_by_the_next_string", named(b"\xf1\x80", b"\x80" * 128))
+refused(9, "utf8_completed_by_the_next_length", envelope(u64(0) + string(b"\xc2") + string(b"d" * 128) + EMPTY * 3))
+refused(9, "utf8_completed_by_the_next_field", header(items([field(description=b"\xf0\x9f"), field(name=b"\x9b\xb0")])))
+accepted("utf8_alphabets", named("Zähler αβγ детектор 検出器 🛰".encode(), "Ω".encode()))
+# around blocks of 8 and of 32 bytes: a sequence across the end of one, one that starts the next, and one cut at the end of the last
+for length in (7, 8, 15, 16, 31, 32, 33, 63, 64, 65, 71):
+    accepted(f"utf8_ascii_{length}_then_4_bytes", named(b"a" * length + "🛰".encode() + b"end"))
+    refused(9, f"utf8_ascii_{length}_then_80", named(b"a" * length + b"\x80"))
+    refused(9, f"utf8_ascii_{length}_then_cut", named(b"a" * length + "🛰".encode()[:3]))
+accepted("utf8_long", named("検出器".encode() * 40 + b"end"))
+refused(9, "utf8_long_cut", named(("検出器" * 40).encode()[:-1]))
+
+# The same in every string of a field.
+for place in ("name", "type_name", "type_alias", "description"):
+    accepted(f"utf8_in_a_field_{place}", header(items([field(**{place: "検出器 🛰".encode()})])), fields=1)
+    refused(9, f"utf8_surrogate_in_a_field_{place}", header(items([field(**{place: b"a\xed\xa0\x80"})])))
+accepted("utf8_in_a_description", named(b"name", "検出器 🛰".encode()))
+refused(9, "utf8_surrogate_in_a_description", named(b"name", b"a\xed\xa0\x80"))
+# 7 for a string that is not all there comes before 9, and 9 for the first ill-formed string before all that follows
+refused(7, "utf8_ill_formed_and_too_long", envelope(u64(0) + u32(3) + b"\xff\xff"))
+refused(9, "utf8_before_the_next_string", envelope(u64(0) + string(b"\xff") + u32(0xFFFFFFFF)))
+refused(9, "utf8_before_the_fields", envelope(u64(0) + string() + string(b"\xff") + u32(0)))
+
 # Frames where a list is due.
 accepted("list_size_fffffff8", header(fields=u32(0xFFFFFFF8) + u32(0)))
 refused(8, "list_size_00000004", header(fields=u32(0x00000004)))

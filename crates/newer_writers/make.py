@@ -53,7 +53,8 @@ def header(w, size):
     for i in range(size):
         flags = 2 if i == 2 else 1 if i == 3 else 0
         parent = i if i % 3 != 1 else min(i + 1, size - 1)
-        fields.append(field(w, b"f%d" % i, parent, flags, 9 if flags & 1 else None))
+        name = f"θ{i}" if i % 2 else f"f{i}"
+        fields.append(field(w, name.encode(), parent, flags, 9 if flags & 1 else None))
     fields = w.list(fields)
     for i in range(size):
         columns.append(w.record(struct.pack("<HHII", *((2, 32) if i % 2 == 0 else (0x77, 5)), i, i % 8)))

@@ -83,6 +83,9 @@ static void pages(void) {
 
 int main(void) {
     same("checksum of nothing", rnt_crc32(NULL, 0), 0);
+    same("UTF-8 of nothing", rnt_is_utf8(NULL, 0), 1);
+    same("UTF-8 of D7FF", rnt_is_utf8((const uint8_t *)"\xED\x9F\xBF", 3), 1);
+    same("UTF-8 of D800", rnt_is_utf8((const uint8_t *)"\xED\xA0\x80", 3), 0);
     write_envelopes();
     headers();
     footers();

@@ -65,6 +65,7 @@ mod c {
             result_words: usize,
         ) -> u32;
         pub fn rnt_crc32(bytes: *const u8, length: usize) -> u32;
+        pub fn rnt_is_utf8(bytes: *const u8, length: usize) -> u32;
     }
 }
 
@@ -252,4 +253,10 @@ pub fn encode_page<'a>(
 pub fn crc32(bytes: &[u8]) -> u32 {
     // SAFETY: see above.
     unsafe { c::rnt_crc32(bytes.as_ptr(), bytes.len()) }
+}
+
+/// Whether the bytes are well-formed UTF-8, as a header's strings have to be.
+pub fn is_utf8(bytes: &[u8]) -> bool {
+    // SAFETY: see above.
+    unsafe { c::rnt_is_utf8(bytes.as_ptr(), bytes.len()) == 1 }
 }

@@ -29,7 +29,9 @@ mod refusal;
 mod room;
 mod rows;
 
-pub use calls::{crc32, decode_page, encode_page, read_footer, read_header, read_page_list, Footer, Header, PageList};
+pub use calls::{
+    crc32, decode_page, encode_page, is_utf8, read_footer, read_header, read_page_list, Footer, Header, PageList,
+};
 pub use refusal::{Envelope, Reason, Refusal};
 pub use room::{decode, encode, FooterRoom, HeaderRoom, PageListRoom};
 pub use rows::{Alias, Cluster, Column, ColumnNumber, Field, FieldNumber, Link, Page, Row, Table};

@@ -65,7 +65,7 @@ reasons! {
     (6, FeatureNotKnown, "feature bit set, other than bit 63"),
     (7, PastContainer, "number, string or frame runs past its container"),
     (8, FrameWrong, "wrong frame kind, size below its own head, reserved bits set"),
-    (9, StringWrong, "string byte above 127"),
+    (9, StringWrong, "string is not well-formed UTF-8"),
     (10, CountAboveCeiling, "count above a ceiling"),
     (11, UnexplainedBytes, "unexplained bytes after the last known content while version equals minimum"),
     (12, NotListed, "role above 4, or a flag not listed"),

@@ -80,7 +80,7 @@ pub struct Page {
 /// The string with this place and length in an envelope that was accepted.
 pub(crate) fn text(envelope: &[u8], place: u64, length: u64) -> &str {
     let characters = &envelope[place as usize..][..length as usize];
-    std::str::from_utf8(characters).expect("an accepted string is ASCII")
+    std::str::from_utf8(characters).expect("an accepted string is well-formed UTF-8")
 }
 
 impl<'a> Row<'a> for Field<'a> {

@@ -1,8 +1,9 @@
 //! The calls from Rust: accepted, refused, too little room, pages both ways, and nothing lent.
 
 use rntuple_check::{
-    crc32, decode, decode_page, encode, encode_page, most, read_footer, read_header, read_page_list, Alias, Cluster,
-    Column, ColumnNumber, Envelope, FieldNumber, FooterRoom, HeaderRoom, Link, Page, PageListRoom, Reason, Refusal,
+    crc32, decode, decode_page, encode, encode_page, is_utf8, most, read_footer, read_header, read_page_list, Alias,
+    Cluster, Column, ColumnNumber, Envelope, FieldNumber, FooterRoom, HeaderRoom, Link, Page, PageListRoom, Reason,
+    Refusal,
 };
 
 const FIELDS: &[u8] = include_bytes!("../../../examples/fields.header");
@@ -10,6 +11,8 @@ const FIELDS_FOOTER: &[u8] = include_bytes!("../../../examples/fields.footer");
 const FIELDS_PAGE_LIST: &[u8] = include_bytes!("../../../examples/fields.pagelist");
 const NEWER: &[u8] = include_bytes!("../../../examples/newer.header");
 const DAMAGED: &[u8] = include_bytes!("../../../examples/damaged.header");
+const ALPHABETS: &[u8] = include_bytes!("../../../examples/alphabets.header");
+const SURROGATE: &[u8] = include_bytes!("../../../examples/surrogate.header");
 const SMALLEST: &[u8] = include_bytes!("../../../examples/smallest.header");
 const SMALLEST_FOOTER: &[u8] = include_bytes!("../../../examples/smallest.footer");
 const SMALLEST_PAGE_LIST: &[u8] = include_bytes!("../../../examples/smallest.pagelist");
@@ -111,6 +114,19 @@ fn a_header_is_read() {
     };
     assert_eq!(header.aliases.iter().collect::<Vec<_>>(), [alias]);
     assert_eq!(header.aliases.get(1), None);
+}
+
+#[test]
+fn names_of_any_alphabet_are_read() {
+    let mut room = HeaderRoom::full();
+    let header = room.read(ALPHABETS).unwrap();
+    assert_eq!((header.name, header.description), ("Zähler", "события детектора"));
+    let names: Vec<_> = header.fields.iter().map(|field| field.name).collect();
+    assert_eq!(names, ["энергия", "θ", "検出器"]);
+    let refusal = HeaderRoom::full().read(SURROGATE).unwrap_err();
+    assert_eq!(refusal.to_string(), "header refused 9: string is not well-formed UTF-8");
+    assert!(is_utf8("検出器".as_bytes()) && is_utf8(b""));
+    assert!(!is_utf8(b"\xED\xA0\x80"));
 }
 
 #[test]

@@ -2,6 +2,8 @@
 ghost use mathlib.Core.Path.{_≡_};
 ghost use lib.ListN.{length};
 ghost use Rattle.checksum.specs.Crc.{crc32};
+ghost use Rattle.utf8.specs.WellFormed.{wellFormed};
+ghost use Rattle.rows.specs.Words.{bit};
 ghost use Rattle.header.specs.Tables.{headerOf};
 ghost use Rattle.footer.specs.Tables.{footerBeside};
 ghost use Rattle.page_list.specs.Tables.{pageListBeside};
@@ -14,6 +16,16 @@ pub extern "C" fn rnt_crc32(bytes: &[u8]) -> u32
     ensures { λ r. ⌜ r ≡ crc32 (now (bytes .entry)) ⌝ }
 {
     checksum::crc32(bytes)
+}
+
+#[no_mangle]
+pub extern "C" fn rnt_is_utf8(bytes: &[u8]) -> u32
+    ensures { λ r. ⌜ r ≡ bit (wellFormed (now (bytes .entry))) ⌝ }
+{
+    if utf8::well_formed(bytes) {
+        return 1;
+    }
+    0
 }
 
 #[no_mangle]

@@ -10,7 +10,7 @@ use lib.ListN.{replicate}
 use Rattle.numbers.specs.Numbers.{little}
 use Rattle.numbers.specs.Rows.{flat, flatBy}
 use Rattle.checksum.specs.Crc.{shifted, bits, byte, fold, crc32}
-use Rattle.text.specs.Strings.{ascii}
+use Rattle.utf8.specs.WellFormed.{due, goesOn, wellFormed}
 use Rattle.envelope.specs.Envelope.{checksumOf}
 use Rattle.column_type.specs.Types.{known, widthOf, widths}
 use Rattle.rows.specs.Words.{fieldWords, columnWords, aliasWords}
@@ -44,7 +44,7 @@ use Rattle.forward_examples.proofs.Extensible.{extensible, appendable}
 -- the trees of the plain envelopes keep the rules
 
 plain-right : RightHeader plainHeader
-unfolding payloadShape textsShape listsShape fieldShape headShape stringsShape columnShape aliasShape ascii known widthOf widths allReach meets
+unfolding payloadShape textsShape listsShape fieldShape headShape stringsShape columnShape aliasShape wellFormed goesOn due known widthOf widths allReach meets
 plain-right =
     record {
       envelope = record {

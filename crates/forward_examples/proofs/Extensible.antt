@@ -6,7 +6,8 @@ use lib.ListN.{length}
 use Rattle.numbers.specs.Numbers.{little}
 use Rattle.checksum.specs.Crc.{shifted, bits, byte, fold, crc32}
 use Rattle.wire.specs.Reading.{found, number, judged}
-use Rattle.text.specs.Strings.{string, ascii}
+use Rattle.text.specs.Strings.{stringOf}
+use Rattle.utf8.specs.WellFormed.{due, goesOn, wellFormed}
 use Rattle.frames.specs.Frames.{recordOf, listOf, items, frameSize, recordHead, listStop, countJudged}
 use Rattle.envelope.specs.Envelope.{checksumOf, versioned, opened}
 use Rattle.envelope.specs.Features.{features}
@@ -51,11 +52,11 @@ frames-grow cs = record { inside = each-grows cs; spare = added }
 -- what the rules read
 
 header-reads : headerOf (renderHeader plainHeader) ≡ found plainRead 164
-unfolding versioned opened recordOf listOf items number judged string ascii frameSize recordHead listStop countJudged little crc32 fold byte bits shifted features headerOf chained payload texts lists columnsAfter aliasesAfter repetition fieldHead fieldTexts field column alias known widthOf widths allReach meets sealed unsummed payloadShape textsShape listsShape featureWords spelled fieldShape headShape stringsShape columnShape aliasShape
+unfolding versioned opened recordOf listOf items number judged stringOf wellFormed goesOn due frameSize recordHead listStop countJudged little crc32 fold byte bits shifted features headerOf chained payload texts lists columnsAfter aliasesAfter repetition fieldHead fieldTexts field column alias known widthOf widths allReach meets sealed unsummed payloadShape textsShape listsShape featureWords spelled fieldShape headShape stringsShape columnShape aliasShape
 header-reads = refl
 
 newer-header-reads : headerOf (renderHeader newerHeader) ≡ found newerRead 182
-unfolding versioned opened recordOf listOf items number judged string ascii frameSize recordHead listStop countJudged little crc32 fold byte bits shifted features headerOf chained payload texts lists columnsAfter aliasesAfter repetition fieldHead fieldTexts field column alias known widthOf widths allReach meets sealed unsummed payloadShape textsShape listsShape featureWords spelled fieldShape headShape stringsShape columnShape aliasShape
+unfolding versioned opened recordOf listOf items number judged stringOf wellFormed goesOn due frameSize recordHead listStop countJudged little crc32 fold byte bits shifted features headerOf chained payload texts lists columnsAfter aliasesAfter repetition fieldHead fieldTexts field column alias known widthOf widths allReach meets sealed unsummed payloadShape textsShape listsShape featureWords spelled fieldShape headShape stringsShape columnShape aliasShape
 newer-header-reads = refl
 
 footer-reads : footerOf (checksumOf (renderHeader plainHeader)) 140 (renderFooter plainFooter) ≡ found footerRead 100
@@ -135,7 +136,7 @@ unfolding sealed unsummed payloadShape textsShape listsShape featureWords spelle
 appended-long = refl
 
 pub appendable : Appendable
-unfolding versioned opened recordOf listOf items number judged string ascii frameSize recordHead listStop countJudged little crc32 fold byte bits shifted features headerOf chained payload texts lists columnsAfter aliasesAfter repetition fieldHead fieldTexts field column alias known widthOf widths allReach meets sealed unsummed payloadShape textsShape listsShape featureWords spelled fieldShape headShape stringsShape columnShape aliasShape
+unfolding versioned opened recordOf listOf items number judged stringOf wellFormed goesOn due frameSize recordHead listStop countJudged little crc32 fold byte bits shifted features headerOf chained payload texts lists columnsAfter aliasesAfter repetition fieldHead fieldTexts field column alias known widthOf widths allReach meets sealed unsummed payloadShape textsShape listsShape featureWords spelled fieldShape headShape stringsShape columnShape aliasShape
 appendable =
     record {
       appendix = record {

@@ -4,7 +4,7 @@ use mathlib.Core.List.{[], _∷_}
 use mathlib.Core.Path.{_≡_, refl}
 use native.Mathlib.Omega.{arith}
 use lib.ListN.{length}
-use Rattle.text.specs.Strings.{ascii}
+use Rattle.utf8.specs.WellFormed.{due, goesOn, wellFormed}
 use Rattle.column_type.specs.Types.{known, widthOf, widths}
 use Rattle.parents.specs.Parents.{allReach}
 use Rattle.rows.specs.declared.ColumnRow.{ColumnRow}
@@ -35,7 +35,7 @@ unfolding sealed unsummed payloadShape textsShape listsShape featureWords spelle
 smallest-long = refl
 
 pub smallest-right : RightHeader smallest
-unfolding payloadShape textsShape listsShape ascii allReach
+unfolding payloadShape textsShape listsShape wellFormed goesOn due allReach
 smallest-right =
     record {
       envelope = record {
@@ -108,7 +108,7 @@ unfolding sealed unsummed payloadShape textsShape listsShape featureWords spelle
 with-field-long = refl
 
 with-field-may : Appendix smallest (one-field ∷ []) (one-column ∷ [])
-unfolding fieldShape headShape stringsShape columnShape ascii known widthOf widths
+unfolding fieldShape headShape stringsShape columnShape wellFormed goesOn due known widthOf widths
 with-field-may =
     record {
       selfParented = (refl, tt);

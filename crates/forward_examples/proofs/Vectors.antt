@@ -7,7 +7,8 @@ use mathlib.Core.Path.{_≡_, refl}
 use Rattle.numbers.specs.Numbers.{little}
 use Rattle.checksum.specs.Crc.{shifted, bits, byte, fold, crc32}
 use Rattle.wire.specs.Reading.{found, refused, number, judged, inItem}
-use Rattle.text.specs.Strings.{string, ascii}
+use Rattle.text.specs.Strings.{stringOf}
+use Rattle.utf8.specs.WellFormed.{due, goesOn, wellFormed}
 use Rattle.frames.specs.Frames.{recordOf, listOf, items, frameSize, recordHead, listStop, countJudged}
 use Rattle.envelope.specs.Envelope.{versioned, opened, checksumOf}
 use Rattle.wire.specs.declared.Kind.the-variants.{Number, Total}
@@ -46,7 +47,7 @@ small =
     }
 
 pub smallest-header-read : headerOf smallest-header ≡ found small 44
-unfolding versioned opened recordOf listOf items number judged string ascii frameSize recordHead listStop countJudged little crc32 fold byte bits shifted features headerOf chained payload texts lists columnsAfter aliasesAfter repetition fieldHead fieldTexts field column alias known widthOf widths allReach meets
+unfolding versioned opened recordOf listOf items number judged stringOf wellFormed goesOn due frameSize recordHead listStop countJudged little crc32 fold byte bits shifted features headerOf chained payload texts lists columnsAfter aliasesAfter repetition fieldHead fieldTexts field column alias known widthOf widths allReach meets
 smallest-header-read = refl
 
 pub smallest-header-rendered : renderHeader smallest ≡ smallest-header
@@ -84,7 +85,7 @@ one =
     }
 
 pub field-header-read : headerOf field-header ≡ found one 97
-unfolding versioned opened recordOf listOf items number judged string ascii frameSize recordHead listStop countJudged little crc32 fold byte bits shifted features headerOf chained payload texts lists columnsAfter aliasesAfter repetition fieldHead fieldTexts field column alias known widthOf widths allReach meets
+unfolding versioned opened recordOf listOf items number judged stringOf wellFormed goesOn due frameSize recordHead listStop countJudged little crc32 fold byte bits shifted features headerOf chained payload texts lists columnsAfter aliasesAfter repetition fieldHead fieldTexts field column alias known widthOf widths allReach meets
 field-header-read = refl
 
 pub field-header-rendered : renderHeader with-field ≡ field-header
@@ -100,7 +101,7 @@ smallest-footer =
     69 ∷ []
 
 pub smallest-footer-read : footerOf (checksumOf smallest-header) 0 smallest-footer ≡ found (record { clusters = []; metadata = [] }) 48
-unfolding versioned opened recordOf listOf items number judged string ascii frameSize recordHead listStop countJudged little crc32 fold byte bits shifted features footerOf footer-payload link cluster entriesOf
+unfolding versioned opened recordOf listOf items number judged stringOf wellFormed goesOn due frameSize recordHead listStop countJudged little crc32 fold byte bits shifted features footerOf footer-payload link cluster entriesOf
 smallest-footer-read = refl
 
 abbrev pub cluster-footer : List ℕ
@@ -115,17 +116,17 @@ pub cluster-footer-read : footerOf (checksumOf field-header) 140 cluster-footer 
   clusters = record { «first_entry» = 0; entries = 3; «page_list» = record { size = 40; offset = 100 } } ∷ [];
   metadata = record { size = 7; offset = 0 } ∷ [];
 }) 100
-unfolding versioned opened recordOf listOf items number judged string ascii frameSize recordHead listStop countJudged little crc32 fold byte bits shifted features footerOf footer-payload link cluster entriesOf
+unfolding versioned opened recordOf listOf items number judged stringOf wellFormed goesOn due frameSize recordHead listStop countJudged little crc32 fold byte bits shifted features footerOf footer-payload link cluster entriesOf
 cluster-footer-read = refl
 
 -- one byte further than the file
 pub cluster-footer-outside : footerOf (checksumOf field-header) 139 cluster-footer ≡ refused (record { number = 18; place = 68; kind = Number; list = 32; item = 0 })
-unfolding inItem versioned opened recordOf listOf items number judged string ascii frameSize recordHead listStop countJudged little crc32 fold byte bits shifted features footerOf footer-payload link cluster entriesOf
+unfolding inItem versioned opened recordOf listOf items number judged stringOf wellFormed goesOn due frameSize recordHead listStop countJudged little crc32 fold byte bits shifted features footerOf footer-payload link cluster entriesOf
 cluster-footer-outside = refl
 
 -- beside another header
 pub cluster-footer-stale : footerOf (checksumOf smallest-header) 140 cluster-footer ≡ refused (record { number = 16; place = 12; kind = Number; list = 0; item = 0 })
-unfolding versioned opened recordOf listOf items number judged string ascii frameSize recordHead listStop countJudged little crc32 fold byte bits shifted features footerOf footer-payload link cluster entriesOf
+unfolding versioned opened recordOf listOf items number judged stringOf wellFormed goesOn due frameSize recordHead listStop countJudged little crc32 fold byte bits shifted features footerOf footer-payload link cluster entriesOf
 cluster-footer-stale = refl
 
 abbrev footer-tree : FooterTree
@@ -158,7 +159,7 @@ smallest-page-list =
     1 ∷ 0 ∷ 1 ∷ 0 ∷ 248 ∷ 255 ∷ 255 ∷ 255 ∷ 0 ∷ 0 ∷ 0 ∷ 0 ∷ 177 ∷ 200 ∷ 170 ∷ 159 ∷ []
 
 pub smallest-page-list-read : pageListOf small 0 0 smallest-page-list ≡ found [] 12
-unfolding versioned opened recordOf listOf items number judged string ascii frameSize recordHead listStop countJudged little crc32 fold byte bits shifted features pageListOf page-payload summed pages page pagesOf totals totalOf elementsOf known
+unfolding versioned opened recordOf listOf items number judged stringOf wellFormed goesOn due frameSize recordHead listStop countJudged little crc32 fold byte bits shifted features pageListOf page-payload summed pages page pagesOf totals totalOf elementsOf known
 smallest-page-list-read = refl
 
 abbrev pub one-page-list : List ℕ
@@ -167,12 +168,12 @@ one-page-list =
     0 ∷ 50 ∷ 0 ∷ 0 ∷ 0 ∷ 0 ∷ 0 ∷ 0 ∷ 0 ∷ 50 ∷ 21 ∷ 194 ∷ 233 ∷ []
 
 pub one-page-list-read : pageListOf one 3 74 one-page-list ≡ found ((record { column = record { 0 = 0 }; elements = 3; checksum = false; size = 24; offset = 50 } ∷ []) ∷ []) 36
-unfolding versioned opened recordOf listOf items number judged string ascii frameSize recordHead listStop countJudged little crc32 fold byte bits shifted features pageListOf page-payload summed pages page pagesOf totals totalOf elementsOf known
+unfolding versioned opened recordOf listOf items number judged stringOf wellFormed goesOn due frameSize recordHead listStop countJudged little crc32 fold byte bits shifted features pageListOf page-payload summed pages page pagesOf totals totalOf elementsOf known
 one-page-list-read = refl
 
 -- the cluster has another entry count
 pub one-page-list-other : pageListOf one 4 74 one-page-list ≡ refused (record { number = 19; place = 0; kind = Total; list = 0; item = 0 })
-unfolding versioned opened recordOf listOf items number judged string ascii frameSize recordHead listStop countJudged little crc32 fold byte bits shifted features pageListOf page-payload summed pages page pagesOf totals totalOf elementsOf known
+unfolding versioned opened recordOf listOf items number judged stringOf wellFormed goesOn due frameSize recordHead listStop countJudged little crc32 fold byte bits shifted features pageListOf page-payload summed pages page pagesOf totals totalOf elementsOf known
 one-page-list-other = refl
 
 abbrev page-list-tree : PageListTree

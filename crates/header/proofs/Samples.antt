@@ -11,7 +11,8 @@ use Rattle.numbers.specs.Numbers.{little}
 use Rattle.numbers.specs.Rows.{flat, flatBy}
 use Rattle.checksum.specs.Crc.{shifted, bits, byte, fold, crc32}
 use Rattle.wire.specs.Reading.{found, number, judged}
-use Rattle.text.specs.Strings.{string, ascii}
+use Rattle.text.specs.Strings.{stringOf}
+use Rattle.utf8.specs.WellFormed.{due, goesOn, wellFormed}
 use Rattle.frames.specs.Frames.{recordOf, listOf, items, frameSize, recordHead, listStop, countJudged}
 use Rattle.envelope.specs.Envelope.{versioned, opened}
 use Rattle.envelope.specs.Features.{features}
@@ -27,7 +28,7 @@ smallest-read : headerOf smallestHeader ≡ found (record {
   texts = record { name = record { place = 16; len = 0 }; description = record { place = 20; len = 0 } };
   lists = record { fieldsAt = 20; fields = []; columnsAt = 28; columns = []; aliasesAt = 36; aliases = [] };
 }) 44
-unfolding versioned opened recordOf listOf items number judged string ascii frameSize recordHead listStop countJudged little crc32 fold byte bits shifted features headerOf chained payload texts lists columnsAfter aliasesAfter repetition fieldHead fieldTexts field allReach meets
+unfolding versioned opened recordOf listOf items number judged stringOf wellFormed goesOn due frameSize recordHead listStop countJudged little crc32 fold byte bits shifted features headerOf chained payload texts lists columnsAfter aliasesAfter repetition fieldHead fieldTexts field allReach meets
 smallest-read = refl
 
 none : (n : ℕ) → leb 0 n ≡ true
@@ -52,7 +53,7 @@ one-field-read : headerOf headerWithOneField ≡ found (record {
     aliases = [];
   };
 }) 92
-unfolding versioned opened recordOf listOf items number judged string ascii frameSize recordHead listStop countJudged little crc32 fold byte bits shifted features headerOf chained payload texts lists columnsAfter aliasesAfter repetition fieldHead fieldTexts field allReach meets
+unfolding versioned opened recordOf listOf items number judged stringOf wellFormed goesOn due frameSize recordHead listStop countJudged little crc32 fold byte bits shifted features headerOf chained payload texts lists columnsAfter aliasesAfter repetition fieldHead fieldTexts field allReach meets
 one-field-read = refl
 
 pub header-with-one-field : HeaderWithOneField

@@ -11,7 +11,8 @@ use Rattle.numbers.specs.Numbers.{little}
 use Rattle.checksum.specs.Crc.{shifted, bits, byte, fold, crc32}
 use Rattle.wire.specs.Reading.{refused, fault, number, judged, inItem}
 use Rattle.wire.specs.declared.Kind.the-variants.{Envelope}
-use Rattle.text.specs.Strings.{string, ascii}
+use Rattle.text.specs.Strings.{stringOf}
+use Rattle.utf8.specs.WellFormed.{due, goesOn, wellFormed}
 use Rattle.frames.specs.Frames.{recordOf, listOf, items, frameSize, recordHead, listStop, countJudged}
 use Rattle.envelope.specs.Envelope.{ceiling, versioned, opened}
 use Rattle.envelope.specs.Features.{features}
@@ -57,7 +58,7 @@ long-page-list e more = rw (long-refused 1 e more) refl
 -- the others
 
 header-examples : map (λ (e : List ℕ). numberOf (headerOf e)) headers ≡ drop 1 inHeader
-unfolding inItem versioned opened recordOf listOf items number judged string ascii frameSize recordHead listStop countJudged little crc32 fold byte bits shifted features headerOf chained payload texts lists columnsAfter aliasesAfter repetition fieldHead fieldTexts field column alias known widthOf widths allReach meets
+unfolding inItem versioned opened recordOf listOf items number judged stringOf wellFormed goesOn due frameSize recordHead listStop countJudged little crc32 fold byte bits shifted features headerOf chained payload texts lists columnsAfter aliasesAfter repetition fieldHead fieldTexts field column alias known widthOf widths allReach meets
 header-examples = refl
 
 footer-examples : map (λ (g : List ℕ). numberOf (footerOf 7 100 g)) footers ≡ drop 1 inFooter

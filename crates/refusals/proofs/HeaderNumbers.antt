@@ -38,10 +38,10 @@ naming-field n =
     naming-bind _ _ (naming-pick (repetitive flags) (naming-number refl 8) (naming-give 0)) (λ times. naming-give _)))))))
     (λ head.
     naming-bind _ _
-    (naming-bind _ _ (naming-string refl refl) (λ name.
-    naming-bind _ _ (naming-string refl refl) (λ type-name.
-    naming-bind _ _ (naming-string refl refl) (λ type-alias.
-    naming-bind _ _ (naming-string refl refl) (λ description. naming-give _)))))
+    (naming-bind _ _ (naming-string refl _ refl) (λ name.
+    naming-bind _ _ (naming-string refl _ refl) (λ type-name.
+    naming-bind _ _ (naming-string refl _ refl) (λ type-alias.
+    naming-bind _ _ (naming-string refl _ refl) (λ description. naming-give _)))))
     (λ texts. naming-give _))
 
 naming-column : (n : ℕ) → Naming inHeader (column n)
@@ -71,7 +71,7 @@ naming-lists strict =
 naming-texts : Naming inHeader texts
 unfolding texts among
 naming-texts =
-    record { at = λ s p. naming-bind _ _ (naming-features refl refl (length s)) (λ _. naming-bind _ _ (naming-string refl refl) (λ name. naming-bind _ _ (naming-string refl refl) (λ description. naming-give _))) .at s p }
+    record { at = λ s p. naming-bind _ _ (naming-features refl refl (length s)) (λ _. naming-bind _ _ (naming-string refl _ refl) (λ name. naming-bind _ _ (naming-string refl _ refl) (λ description. naming-give _))) .at s p }
 
 naming-payload : (strict : Bool) → Naming inHeader (payload strict)
 unfolding payload

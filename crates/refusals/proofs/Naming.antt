@@ -20,7 +20,7 @@ use Rattle.frames.specs.declared.FrameSize.{FrameSize}
 use Rattle.frames.specs.declared.FrameSize.the-variants.{RecordSize, ListSize}
 use Rattle.frames.specs.declared.ListHead.{ListHead}
 use Rattle.frames.specs.Frames.{atMost, spare, closedBy, frameSize, frameEnd, recordEnd, recordHead, recordBody, recordOf, listEnd, listStop, listCount, countJudged, listHead, within, items, listBody, listOf}
-use Rattle.text.specs.Strings.{string, ascii}
+use Rattle.text.specs.Strings.{stringOf}
 use Rattle.envelope.specs.Features.{features, featureBits}
 use Rattle.envelope.specs.Envelope.{ceiling, checksumOf, opened, enclosed, versioned, envelope, Versions}
 use Rattle.refusals.specs.Refusals.{among}
@@ -165,13 +165,13 @@ module _ {ns : List ℕ} where
         naming-bind _ _ (naming-tested 4 (storedAs size) (λ w. unless-judged (ltb w (2 ^ 31)) 17 (unless (eqb w size) 17 0) h (last-judged (eqb w size) 17 h))) (λ stored.
         naming-bind _ _ (naming-tested 8 (inFile file stored behind) (λ o. last-judged (leb (o + stored + behind) file) 18 k)) (λ offset. n stored offset))
 
-    pub naming-string : among ns 9 ≡ true → Naming ns string
-    unfolding string among
-    naming-string h =
+    pub naming-string : (good : List ℕ → Bool) → among ns 9 ≡ true → Naming ns (stringOf good)
+    unfolding stringOf among
+    naming-string good h =
         record {
           at = λ s p.
               named-pick (leb (p + 4) (length s))
-              (named-pick (leb (p + 4 + little 4 s p) (length s)) (named-pick (ascii (take (little 4 s p) (drop (p + 4) s))) named-found (named-refused h)) (named-fault 7 Text p refl))
+              (named-pick (leb (p + 4 + little 4 s p) (length s)) (named-pick (good (take (little 4 s p) (drop (p + 4) s))) named-found (named-refused h)) (named-fault 7 Text p refl))
               (named-fault 7 Text p refl);
         }
 

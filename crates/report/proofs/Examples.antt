@@ -5,7 +5,8 @@ use lib.ListN.{length}
 use Rattle.numbers.specs.Numbers.{little}
 use Rattle.checksum.specs.Crc.{shifted, bits, byte, fold, crc32}
 use Rattle.wire.specs.Reading.{number, judged, inItem}
-use Rattle.text.specs.Strings.{string, ascii}
+use Rattle.text.specs.Strings.{stringOf}
+use Rattle.utf8.specs.WellFormed.{due, goesOn, wellFormed}
 use Rattle.frames.specs.Frames.{listOf, items, frameSize, listStop, countJudged}
 use Rattle.envelope.specs.Envelope.{versioned, opened}
 use Rattle.envelope.specs.Features.{features}
@@ -18,7 +19,7 @@ use Rattle.report.specs.Program.{verdict, printed}
 use Rattle.report.specs.Printed.{SmallestHeader, EmptyInput, LongerInput}
 
 pub smallest-header : SmallestHeader
-unfolding printed verdict acceptedLine decimalBy headerOf chained allReach versioned opened little crc32 fold byte bits shifted payload texts lists columnsAfter aliasesAfter features number judged string ascii listOf items frameSize listStop countJudged inItem
+unfolding printed verdict acceptedLine decimalBy headerOf chained allReach versioned opened little crc32 fold byte bits shifted payload texts lists columnsAfter aliasesAfter features number judged stringOf wellFormed goesOn due listOf items frameSize listStop countJudged inItem
 smallest-header = refl
 
 pub empty-input : EmptyInput

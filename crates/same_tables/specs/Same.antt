@@ -23,7 +23,7 @@ sameNumbers [] (y ∷ ys) = false
 sameNumbers (x ∷ xs) [] = false
 sameNumbers (x ∷ xs) (y ∷ ys) = both (eqb x y) (sameNumbers xs ys)
 
--- the characters of a string of the envelope e
+-- the characters of a string of the envelope e, as the bytes that encode them
 abbrev pub charactersOf : List ℕ → Text → List ℕ
 charactersOf e t = textOf e (t .place) (t .len)
 

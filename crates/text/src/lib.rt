@@ -1,9 +1,10 @@
-// Strings: a length of four bytes, and so many characters.
+// Strings: a length of four bytes, and so many bytes of characters.
 use rows::Text;
 use wire::Fault;
 use wire::Kind;
 ghost use mathlib.Core.Path.{_≡_};
-ghost use Rattle.text.specs.Strings.{ascii, string};
+ghost use Rattle.utf8.specs.WellFormed.{wellFormed};
+ghost use Rattle.text.specs.Strings.{string};
 ghost use Rattle.text.specs.Answers.{textStep};
 
 // A string and the place after it, or a refusal.
@@ -12,19 +13,14 @@ pub enum TextStep {
     Refused(Fault),
 }
 
-// Every byte is at most 127: the greatest is. With no way out before the end, the machine takes many bytes at a time.
-fn all_ascii(s: &[u8]) -> bool
-    ensures { λ r. ⌜ r ≡ ascii (now (s .entry)) ⌝ }
+// The bytes are well-formed UTF-8. Most names are ASCII: that is tested here, with no call, and the rest in a function of its own.
+fn is_text(s: &[u8]) -> bool
+    ensures { λ r. ⌜ r ≡ wellFormed (now (s .entry)) ⌝ }
 {
-    let mut greatest = 0u8;
-    let mut i = 0;
-    while i < s.len() {
-        if greatest < s[i] {
-            greatest = s[i];
-        }
-        i += 1;
+    if utf8::is_ascii(s) {
+        return true;
     }
-    greatest <= 127
+    utf8::well_formed(s)
 }
 
 // The string whose length stands at `at`.
@@ -36,7 +32,7 @@ pub fn string_at(s: &[u8], at: usize) -> TextStep
         let len = numbers::little_4(s, at) as usize;
         if numbers::has_room(s, from, len) {
             let to = from + len;
-            if all_ascii(&s[from..to]) {
+            if is_text(&s[from..to]) {
                 return TextStep::Found(Text { place: from, len }, to);
             }
             return TextStep::Refused(wire::fault_at(9, Kind::Text, at));

@@ -12,10 +12,10 @@ use lib.Seq.{length-take-le}
 use Rattle.numbers.specs.Choice.{pick}
 use Rattle.numbers.specs.Numbers.{little}
 use Rattle.wire.specs.Reading.{Step, found, refused, Rule, after, _>>=_, give, here, number, judged, tested}
-use Rattle.text.specs.Strings.{string, ascii}
+use Rattle.text.specs.Strings.{stringOf}
 use Rattle.wire.specs.declared.Fault.{Fault}
 use Rattle.tree.specs.Bytes.{spelled, Stands}
-use Rattle.tree.specs.Shape.{Carrier, Shape, Law, bare, numberShape, stringShape, chars, nothingShape, NoVerdict, _▷_, thenShape, seenShape, dressed, dressedShape}
+use Rattle.tree.specs.Shape.{Carrier, Shape, Law, bare, numberShape, stringShapeOf, chars, nothingShape, NoVerdict, _▷_, thenShape, seenShape, dressed, dressedShape}
 use Rattle.tree.proofs.Place.{length-spelled, stands-left, stands-right, stands-join, stands-none, stands-part, part-stands, little-spelled, little-bound, spelled-little, container-long, little-container, part-in}
 
 -- a choice between a step and a refusal that finds something took the step
@@ -115,9 +115,9 @@ module _ (s : List ℕ) (strict : Bool) where
         sound = λ end p a q bytes some inside at reads. law p .sound end p a q bytes some inside at reads;
       }
 
-  pub string-law : length s < 2 ^ 31 → Law s strict string bare stringShape (λ cs a. chars s a ≡ cs)
-  unfolding string
-  string-law small =
+  pub string-law : {good : List ℕ → Bool} → length s < 2 ^ 31 → Law s strict (stringOf good) bare (stringShapeOf good) (λ cs a. chars s a ≡ cs)
+  unfolding stringOf
+  string-law {good} small =
       record {
         complete = λ end p cs inside valid plain stands fits.
             let head = length-spelled 4 (length cs) in
@@ -138,7 +138,7 @@ module _ (s : List ℕ) (strict : Bool) where
             let n = little 4 s p in
             let same-number : little 4 (take end s) p ≡ n = little-container s end inside 4 p head-fits in
             let (room′, reads″) = pick-found (leb (p + 4 + little 4 (take end s) p) (length (take end s))) _ _ a q reads′ in
-            let (good, reads‴) = pick-found (ascii (take (little 4 (take end s) p) (drop (p + 4) (take end s)))) _ _ a q reads″ in
+            let (right-characters, reads‴) = pick-found (good (take (little 4 (take end s) p) (drop (p + 4) (take end s)))) _ _ a q reads″ in
             let fits : p + 4 + n ≤ end = omega (arith, leb-true (p + 4 + little 4 (take end s) p) (length (take end s)) room′) in
             let stop′ : q ≡ p + 4 + little 4 (take end s) p = cc in
             let stop : q ≡ p + 4 + n = omega arith in
@@ -152,7 +152,7 @@ module _ (s : List ℕ) (strict : Bool) where
             let right : Stands s (p + length (spelled 4 (length cs))) cs = rw head (stands-part s (p + 4) n) in
             record {
               tree = cs;
-              valid = sym (ap ascii part) ∙ good;
+              valid = sym (ap good part) ∙ right-characters;
               plain = λ _. tt;
               stands = stands-join (spelled 4 (length cs)) cs left right;
               stop = omega (arith, length-append (spelled 4 (length cs)) cs);

@@ -70,6 +70,7 @@ mod exported {
             result_words: usize,
         ) -> u32;
         pub fn rnt_crc32(bytes: *const u8, length: usize) -> u32;
+        pub fn rnt_is_utf8(bytes: *const u8, length: usize) -> u32;
     }
 }
 
@@ -206,6 +207,10 @@ mod exported {
     pub unsafe fn rnt_crc32(bytes: *const u8, length: usize) -> u32 {
         reference::crc::crc32(from_raw_parts(bytes, length))
     }
+
+    pub unsafe fn rnt_is_utf8(bytes: *const u8, length: usize) -> u32 {
+        u32::from(reference::envelope::is_string(from_raw_parts(bytes, length)))
+    }
 }
 
 pub fn read_header(
@@ -328,4 +333,9 @@ pub fn encode_page(
 pub fn crc32(bytes: &[u8]) -> u32 {
     // SAFETY: as above.
     unsafe { exported::rnt_crc32(bytes.as_ptr(), bytes.len()) }
+}
+
+pub fn is_utf8(bytes: &[u8]) -> u32 {
+    // SAFETY: as above.
+    unsafe { exported::rnt_is_utf8(bytes.as_ptr(), bytes.len()) }
 }

@@ -4,8 +4,9 @@
 use crate::calls;
 use crate::generate::envelopes::{FooterCase, HeaderCase, PageListCase};
 use crate::generate::pages::{CrcCase, DecodeCase, EncodeCase};
+use crate::generate::strings::StringCase;
 use crate::generate::{Generator, Kind};
-use crate::reference::envelope::ENVELOPE_CEILING;
+use crate::reference::envelope::{is_string, ENVELOPE_CEILING};
 use crate::reference::{self, footer, header, page_list};
 use std::fmt::Write;
 
@@ -203,6 +204,11 @@ impl Comparer {
                 self.header(&case)
                     .map_err(|error| error + &dump("header", &case.envelope))
             }
+            Kind::String => {
+                let case = self.generator.string_case();
+                self.string(&case)
+                    .map_err(|error| error + &dump("string", &case.string) + &dump("header", &case.header.envelope))
+            }
             Kind::Footer => {
                 let case = self.generator.footer_case();
                 self.footer(&case).map_err(|error| {
@@ -270,6 +276,16 @@ impl Comparer {
         difference.map_err(|what| format!("{what}\nlibrary {}\nreference {}\n", name(ours), name(theirs)))?;
         self.tally.count(theirs);
         Ok(())
+    }
+
+    fn string(&mut self, case: &StringCase) -> Result<(), String> {
+        let seed = self.seed();
+        let ours = calls::is_utf8(self.shelves[0].lend(&case.string, seed));
+        let theirs = u32::from(is_string(&case.string));
+        if ours != theirs {
+            return Err(format!("the string alone: library {ours}, reference {theirs}\n"));
+        }
+        self.header(&case.header)
     }
 
     fn header(&mut self, case: &HeaderCase) -> Result<(), String> {

@@ -7,11 +7,12 @@ pub mod envelopes;
 pub mod models;
 pub mod pages;
 pub mod random;
+pub mod strings;
 
 use crate::writer::Writer;
 use random::Random;
 
-/// The six kinds of cases.
+/// The seven kinds of cases.
 #[derive(Clone, Copy, Debug, PartialEq, Eq)]
 pub enum Kind {
     Header,
@@ -20,15 +21,17 @@ pub enum Kind {
     Decode,
     Encode,
     Crc,
+    String,
 }
 
-pub const KINDS: [Kind; 6] = [
+pub const KINDS: [Kind; 7] = [
     Kind::Header,
     Kind::Footer,
     Kind::PageList,
     Kind::Decode,
     Kind::Encode,
     Kind::Crc,
+    Kind::String,
 ];
 
 impl Kind {
@@ -40,6 +43,7 @@ impl Kind {
             Kind::Decode => "decode",
             Kind::Encode => "encode",
             Kind::Crc => "crc",
+            Kind::String => "string",
         }
     }
 }
@@ -50,7 +54,9 @@ pub const PERIOD: u64 = 8_192;
 pub struct Generator {
     pub random: Random,
     pub writer: Writer,
-    /// The place of the case in its period; the first ones are edge cases.
+    /// The case's number.
+    pub case: u64,
+    /// Its place in its period; the first ones are edge cases.
     pub place: u64,
 }
 
@@ -59,6 +65,7 @@ impl Generator {
         Generator {
             random: Random::new(0),
             writer: Writer::default(),
+            case: 0,
             place: 0,
         }
     }
@@ -68,6 +75,7 @@ impl Generator {
         let mut mixer = Random::new(seed ^ (kind as u64) << 56);
         let own = mixer.next() ^ case.wrapping_mul(0xD6E8_FEB8_6659_FD93);
         self.random = Random::new(own);
+        self.case = case;
         self.place = case % PERIOD;
     }
 }

@@ -10,9 +10,9 @@ use std::sync::atomic::{AtomicBool, Ordering};
 const HELP: &str = "\
 usage: differential N [SEED] [--threads T] [--only KIND] [--case NUMBER]
 
-Runs N cases of each kind (header, footer, page-list, decode, encode, crc) on
-the library and on the independent reference, and compares answers, result
-words and every word of every lent room. SEED is 1 unless given.
+Runs N cases of each kind (header, footer, page-list, decode, encode, crc,
+string) on the library and on the independent reference, and compares answers,
+result words and every word of every lent room. SEED is 1 unless given.
 --threads T      at most 2 threads, 1 unless given
 --only KIND      that kind alone
 --case NUMBER    that case alone, of each kind or of the one named
@@ -144,6 +144,7 @@ fn reachable(kind: Kind) -> Vec<(usize, usize)> {
         Kind::Decode => own(4, &[10, 20, 21, 22, 23, 24]),
         Kind::Encode => own(4, &[10, 20, 23, 25]),
         Kind::Crc => Vec::new(),
+        Kind::String => own(1, &[9]),
     }
 }
 

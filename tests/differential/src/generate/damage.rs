@@ -187,7 +187,12 @@ fn once(random: &mut Random, writer: &mut Writer) -> bool {
         18 | 19 => match find(random, writer, |part| part == Part::Characters) {
             Some(mark) => {
                 let at = mark.place + random.index(mark.width);
-                writer.bytes[at] |= 0x80;
+                writer.bytes[at] = match random.below(4) {
+                    0 => writer.bytes[at] | 0x80,
+                    1 => random.pick(&[0x7F, 0x80, 0x8F, 0x90, 0x9F, 0xA0, 0xBF, 0xC0, 0xC1, 0xC2]),
+                    2 => random.pick(&[0xDF, 0xE0, 0xE1, 0xED, 0xEF, 0xF0, 0xF1, 0xF4, 0xF5, 0xFF]),
+                    _ => writer.bytes[at] ^ 1 << random.below(8),
+                };
                 true
             }
             None => false,

@@ -165,7 +165,7 @@ impl Generator {
         whole && self.random.one_in(20)
     }
 
-    fn header_bytes(&mut self, model: &Header, spoilt: bool) -> Vec<u8> {
+    pub(super) fn header_bytes(&mut self, model: &Header, spoilt: bool) -> Vec<u8> {
         self.writer.header(model);
         self.finish(spoilt)
     }

@@ -49,11 +49,42 @@ pub fn string(random: &mut Random) -> Vec<u8> {
         31..=200 => random.index(6),
         _ => 0,
     };
+    if random.one_in(2) {
+        return characters(random, length);
+    }
     let mut bytes = random.bytes(length);
     for byte in &mut bytes {
         *byte &= 0x7F;
     }
     bytes
+}
+
+/// Well-formed UTF-8 of at most so many bytes, often at the ends of the encoding's ranges; short ones are often ASCII up to their last
+/// characters.
+pub fn characters(random: &mut Random, most: usize) -> Vec<u8> {
+    let mut text = String::new();
+    let ascii = if random.one_in(2) {
+        most.saturating_sub(random.index(9))
+    } else {
+        0
+    };
+    loop {
+        let number = match random.below(6) {
+            _ if text.len() < ascii => random.below(0x80) as u32,
+            0 => random.pick(&[
+                0, 0x7F, 0x80, 0x7FF, 0x800, 0xFFF, 0x1000, 0xCFFF, 0xD000, 0xD7FF, 0xE000, 0xFFFF,
+            ]),
+            1 => random.pick(&[0x1_0000, 0x3_FFFF, 0x4_0000, 0xF_FFFF, 0x10_0000, 0x10_FFFF]),
+            2 => random.below(0x11_0000) as u32,
+            3 => random.below(0x800) as u32,
+            _ => random.below(0x80) as u32,
+        };
+        let character = char::from_u32(number).unwrap_or('?');
+        if text.len() + character.len_utf8() > most {
+            return text.into_bytes();
+        }
+        text.push(character);
+    }
 }
 
 fn count(random: &mut Random) -> usize {

@@ -59,6 +59,11 @@ pub fn open(bytes: &[u8]) -> Result<Envelope<'_>, Number> {
     })
 }
 
+/// Bytes that a string may have: well-formed UTF-8.
+pub fn is_string(bytes: &[u8]) -> bool {
+    std::str::from_utf8(bytes).is_ok()
+}
+
 impl<'a> Container<'a> {
     #[inline(always)]
     fn take<const N: usize>(&mut self) -> Result<[u8; N], Number> {
@@ -98,7 +103,7 @@ impl<'a> Container<'a> {
     pub fn string(&mut self) -> Result<Text, Number> {
         let length = self.u32()?;
         let bytes = self.bytes[self.at..].get(..length as usize).ok_or(7u32)?;
-        if !bytes.is_ascii() {
+        if !is_string(bytes) {
             return Err(9);
         }
         let place = self.at as u32;

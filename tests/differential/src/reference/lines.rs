@@ -121,6 +121,45 @@ fn check_value_of_the_checksum() {
     }
 }
 
+/// Strings are well-formed UTF-8, each by itself.
+#[test]
+fn strings() {
+    let answer = |name: &[u8], description: &[u8]| {
+        header_answer(&header_bytes(&writer::Header {
+            name: name.to_vec(),
+            description: description.to_vec(),
+            ..Default::default()
+        }))
+    };
+    for good in [
+        "",
+        "\0\u{7F}",
+        "\u{80}\u{7FF}",
+        "\u{800}\u{D7FF}\u{E000}\u{FFFF}",
+        "\u{10000}\u{10FFFF}",
+    ] {
+        assert_eq!(answer(good.as_bytes(), b"a"), 0, "{good:?}");
+    }
+    let bad: [&[u8]; 10] = [
+        b"\x80",
+        b"\xC0\x80",
+        b"\xC1\xBF",
+        b"\xE0\x9F\xBF",
+        b"\xF0\x8F\xBF\xBF",
+        b"\xED\xA0\x80",
+        b"\xED\xBF\xBF",
+        b"\xF4\x90\x80\x80",
+        b"\xF5\x80\x80\x80",
+        b"a\xE1\x80",
+    ];
+    for bad in bad {
+        assert_eq!(answer(bad, b""), 256 + 9, "{bad:X?}");
+        assert_eq!(answer(b"", bad), 256 + 9, "{bad:X?}");
+    }
+    // The next string's bytes would complete it.
+    assert_eq!(answer(b"\xC2", b"\x80"), 256 + 9);
+}
+
 #[test]
 fn frames() {
     assert_eq!(header_answer(&with_list_head(0xFFFF_FFF8, 0)), 0);
@@ -536,5 +575,12 @@ fn examples() {
     assert_eq!(
         header_answer(include_bytes!("../../../../examples/damaged.header")),
         256 + 3
+    );
+    let alphabets = read(include_bytes!("../../../../examples/alphabets.header"));
+    assert_eq!((alphabets.0, &alphabets.1[..]), (0, &[3, 3, 0][..]));
+    assert_eq!(alphabets.2[2], "энергия".as_bytes());
+    assert_eq!(
+        header_answer(include_bytes!("../../../../examples/surrogate.header")),
+        256 + 9
     );
 }
