@@ -17,6 +17,10 @@ pub each-map : {T U : Type 0} (P : U → Type 0) (f : T → U) (xs : List T) →
 each-map P f [] a = tt
 each-map P f (x ∷ xs) a = (a .0, each-map P f xs (a .1))
 
+pub each-back : {T U : Type 0} (P : U → Type 0) (f : T → U) (xs : List T) → Each P (map f xs) → Each (λ t. P (f t)) xs
+each-back P f [] a = tt
+each-back P f (x ∷ xs) a = (a .0, each-back P f xs (a .1))
+
 -- all elements of lists of which each has the property
 pub each-flat : {T : Type 0} (P : T → Type 0) (xss : List (List T)) → Each (Each P) xss → Each P (flatten xss)
 unfolding flatten
