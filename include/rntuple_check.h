@@ -176,7 +176,8 @@ uint32_t rnt_crc32(const uint8_t *bytes, size_t length);
 
 /*
  * Whether the bytes are well-formed UTF-8, as a header's strings have to be:
- * 1 or 0. Bytes of 0 are characters like others, and no bytes are well-formed.
+ * 1 or 0. A byte 0 is a character like others; nothing at all is well-formed
+ * too, so with the length 0 the answer is 1.
  */
 uint32_t rnt_is_utf8(const uint8_t *bytes, size_t length);
 

@@ -17,7 +17,17 @@ use Rattle.page_list.specs.Tables.{reported as reportedPageList, written as wri
 use Rattle.rows.specs.declared.PageRow.{PageRow}
 use Rattle.page_rules.specs.Page.{encodeOutcome, encoded}
 use Rattle.answers.specs.Results.{headerResult}
+use Rattle.rows.specs.Words.{bit}
+use Rattle.utf8.specs.WellFormed.{wellFormed}
 use Rattle.exports.specs.Results.{given, HandsOver}
+
+-- Bytes alone: the answer is a number of theirs.
+abbrev pub BytesCall : (List ℕ → ℕ) → List ℕ → ℕ → Type 0
+BytesCall of bytes r = r ≡ of bytes
+
+-- 1 for yes, 0 for no
+abbrev pub isUtf8 : List ℕ → ℕ
+isUtf8 bytes = bit (wellFormed bytes)
 
 -- Headers: the places and lengths of name and description, and the counts of fields, columns and aliases.
 

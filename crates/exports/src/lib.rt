@@ -2,25 +2,23 @@
 ghost use mathlib.Core.Path.{_≡_};
 ghost use lib.ListN.{length};
 ghost use Rattle.checksum.specs.Crc.{crc32};
-ghost use Rattle.utf8.specs.WellFormed.{wellFormed};
-ghost use Rattle.rows.specs.Words.{bit};
 ghost use Rattle.header.specs.Tables.{headerOf};
 ghost use Rattle.footer.specs.Tables.{footerBeside};
 ghost use Rattle.page_list.specs.Tables.{pageListBeside};
 ghost use Rattle.page_rules.specs.Page.{decodeOutcome, decoded};
 ghost use Rattle.outcome.specs.Outcome.{codeOf};
-ghost use Rattle.exports.specs.Calls.{HeaderCall, FooterCall, PageListCall, EncodeCall, asks};
+ghost use Rattle.exports.specs.Calls.{BytesCall, isUtf8, HeaderCall, FooterCall, PageListCall, EncodeCall, asks};
 
 #[no_mangle]
 pub extern "C" fn rnt_crc32(bytes: &[u8]) -> u32
-    ensures { λ r. ⌜ r ≡ crc32 (now (bytes .entry)) ⌝ }
+    ensures { λ r. ⌜ BytesCall crc32 (now (bytes .entry)) r ⌝ }
 {
     checksum::crc32(bytes)
 }
 
 #[no_mangle]
 pub extern "C" fn rnt_is_utf8(bytes: &[u8]) -> u32
-    ensures { λ r. ⌜ r ≡ bit (wellFormed (now (bytes .entry))) ⌝ }
+    ensures { λ r. ⌜ BytesCall isUtf8 (now (bytes .entry)) r ⌝ }
 {
     if utf8::well_formed(bytes) {
         return 1;
