@@ -1,6 +1,6 @@
 #!/usr/bin/env python3
 """Writes the cases in data/, the list of them in args and what is to be printed for them in stdout.
-Each case has its bytes and the answer that document 01 gives for them, both written by hand: nothing here reads an envelope or a page."""
+Each case has its bytes and the answer that documents 01 and 02 give for them, both written by hand: nothing here reads an envelope or a page."""
 
 import os
 import shutil
@@ -136,8 +136,14 @@ def link(size, offset, stored=None):
     return u32(size) + u32(size if stored is None else stored) + u64(offset)
 
 
-def cluster(first_entry, entries, page_list=link(0, 0), spare=b""):
-    return record(u64(first_entry) + u64(entries) + page_list + spare)
+# In the row of a cluster whose footer carries no checksums of page lists.
+NONE = 1 << 32
+
+
+def cluster(first_entry, entries, page_list=link(0, 0), checksum=None, spare=b""):
+    """`checksum` is that of the page list, which footers of version 2 and above carry."""
+    carried = b"" if checksum is None else u32(checksum)
+    return record(u64(first_entry) + u64(entries) + page_list + carried + spare)
 
 
 def checksum_of(content):
@@ -157,7 +163,7 @@ def footer_accepted(name, content, words, counts, rows=((), ()), file_length=100
     case(2, name, line, file_length, words=words, first=beside, second=content)
 
 
-def footer_refused(number, name, content=b"", words=(8, 4), file_length=1000, beside=SMALLEST, place=2, **more):
+def footer_refused(number, name, content=b"", words=(10, 4), file_length=1000, beside=SMALLEST, place=2, **more):
     case(2, name, f" refused {place} {number}" + kept(words), file_length, words=words, first=beside, second=content, **more)
 
 
@@ -172,7 +178,10 @@ footer_refused(3, "footer_checksum_bit", flipped(SMALLEST_FOOTER, 51))
 footer_refused(3, "footer_content_bit", flipped(SMALLEST_FOOTER, 12))
 footer_refused(4, "footer_minimum_0", footer(minimum=0))
 footer_refused(4, "footer_minimum_above_version", footer(minimum=2))
-footer_refused(5, "footer_minimum_2", footer(version=2, minimum=2))
+footer_refused(4, "footer_minimum_3_above_version_2", footer(version=2, minimum=3))
+footer_accepted("footer_minimum_2", footer(version=2, minimum=2), (0, 0), (0, 0))
+footer_refused(5, "footer_minimum_3", footer(version=3, minimum=3))
+footer_refused(5, "footer_minimum_65535", footer(version=65535, minimum=65535))
 footer_refused(6, "footer_feature_bit_0", footer(features=u64(1)))
 footer_refused(6, "footer_feature_word_2_bit_62", footer(features=u64(1 << 63) + u64(1 << 62)))
 footer_accepted("footer_feature_words_2", footer(features=u64(1 << 63) + u64(0)), (0, 0), (0, 0))
@@ -207,8 +216,8 @@ footer_refused(17, "footer_stored_size_4_of_5", footer(metadata=items([link(5, 0
 footer_refused(17, "footer_cluster_stored_size_4_of_5", footer(items([cluster(0, 1, link(5, 0, 4))])))
 footer_refused(17, "footer_size_80000000", footer(metadata=items([link(1 << 31, 0, 1 << 31)])))
 LAST_BYTE = footer(items([cluster(0, 3, link(10, 90))]), items([link(5, 95)]))
-LAST_ROWS = ((0, 3, 10, 90), (5, 95))
-footer_accepted("footer_ranges_to_the_last_byte", LAST_BYTE, (4, 2), (1, 1), LAST_ROWS, file_length=100)
+LAST_ROWS = ((0, 3, 10, 90, NONE), (5, 95))
+footer_accepted("footer_ranges_to_the_last_byte", LAST_BYTE, (5, 2), (1, 1), LAST_ROWS, file_length=100)
 footer_refused(18, "footer_cluster_range_one_further", footer(items([cluster(0, 3, link(10, 91))]), items([link(5, 95)])), file_length=100)
 footer_refused(18, "footer_link_range_one_further", footer(items([cluster(0, 3, link(10, 90))]), items([link(5, 96)])), file_length=100)
 footer_refused(18, "footer_file_one_byte_shorter", LAST_BYTE, file_length=99)
@@ -221,37 +230,83 @@ footer_refused(19, "footer_first_entry_1", footer(items([cluster(1, 5)])))
 footer_refused(19, "footer_second_first_entry_4_of_5", footer(items([cluster(0, 5), cluster(4, 1)])))
 footer_refused(19, "footer_first_entry_before_flag_60", footer(items([cluster(1, 1 << 60)])))
 MOST = 2**60 - 1
-footer_accepted("footer_sum_at_its_most", footer(items([cluster(0, MOST - 1), cluster(MOST - 1, 1)])), (8, 0), (2, 0), ((0, MOST - 1, 0, 0, MOST - 1, 1, 0, 0), ()))
+footer_accepted("footer_sum_at_its_most", footer(items([cluster(0, MOST - 1), cluster(MOST - 1, 1)])), (10, 0), (2, 0), ((0, MOST - 1, 0, 0, NONE, MOST - 1, 1, 0, 0, NONE), ()))
 footer_refused(19, "footer_sum_one_further", footer(items([cluster(0, MOST - 1), cluster(MOST - 1, 2)])))
 THREE = items([cluster(0, 5, link(10, 20)), cluster(5, 0, link(0, 1000)), cluster(5, 7, link(100, 900))])
-THREE_ROWS = (0, 5, 10, 20, 5, 0, 0, 1000, 5, 7, 100, 900)
+THREE_ROWS = (0, 5, 10, 20, NONE, 5, 0, 0, 1000, NONE, 5, 7, 100, 900, NONE)
 LINKS = items([link(1, 2), link(3, 4)])
 TWO_NAMED = checksum_of(TWO_FIELDS)
 FULL = footer(THREE, LINKS, named=TWO_NAMED)
-footer_accepted("footer_room_exact", FULL, (12, 4), (3, 2), (THREE_ROWS, (1, 2, 3, 4)), beside=TWO_FIELDS)
-footer_accepted("footer_room_left", FULL, (17, 7), (3, 2), (THREE_ROWS, (1, 2, 3, 4)), beside=TWO_FIELDS)
-footer_refused(20, "footer_room_for_two_clusters", FULL, (11, 4), beside=TWO_FIELDS)
-footer_refused(20, "footer_room_for_one_link", FULL, (12, 3), beside=TWO_FIELDS)
+footer_accepted("footer_room_exact", FULL, (15, 4), (3, 2), (THREE_ROWS, (1, 2, 3, 4)), beside=TWO_FIELDS)
+footer_accepted("footer_room_left", FULL, (19, 7), (3, 2), (THREE_ROWS, (1, 2, 3, 4)), beside=TWO_FIELDS)
+footer_refused(20, "footer_room_for_two_clusters", FULL, (14, 4), beside=TWO_FIELDS)
+footer_refused(20, "footer_room_in_rows_of_4_words", FULL, (12, 4), beside=TWO_FIELDS)
+footer_refused(20, "footer_room_for_one_link", FULL, (15, 3), beside=TWO_FIELDS)
+
+# Footers of version 2 and above, whatever their minimum, carry the checksum of each page list right after its link.
 
 
-def footer_spare(where, words, counts, rows=((), ()), **parts):
-    """Refused at version 1, which is the minimum, and accepted at version 2."""
-    footer_refused(11, f"footer_spare_in_{where}", footer(**parts), words)
-    footer_accepted(f"footer_spare_in_{where}_version_2", footer(version=2, **parts), words, counts, rows)
+def carrying(*checksums, spare=b"", each=b""):
+    """Clusters of five entries whose page lists have these checksums; spare bytes of the list, and of each record."""
+    return items([cluster(5 * i, 5, checksum=c, spare=each) for i, c in enumerate(checksums)], spare=spare)
+
+
+SUM = 0x04030201
+SUM_ROW = (0, 5, 0, 0, SUM)
+
+
+def footer_carries(name, version, minimum=1, **parts):
+    footer_accepted(name, footer(carrying(SUM, **parts), version=version, minimum=minimum), (5, 0), (1, 0), (SUM_ROW, ()))
+
+
+footer_carries("footer_checksum_version_2", 2)
+footer_carries("footer_checksum_version_2_minimum_2", 2, 2)
+footer_carries("footer_checksum_version_3_minimum_2", 3, 2)
+footer_carries("footer_checksum_version_65535", 65535)
+footer_accepted("footer_checksums_0_and_most", footer(carrying(0, NONE - 1), version=2), (10, 0), (2, 0), ((0, 5, 0, 0, 0, 5, 5, 0, 0, NONE - 1), ()))
+footer_accepted("footer_checksum_room_left", footer(carrying(SUM), version=2), (9, 0), (1, 0), (SUM_ROW, ()))
+footer_refused(20, "footer_checksum_room_for_4_words", footer(carrying(SUM), version=2), (4, 0))
+# At version 1 those four bytes are no part of the record.
+footer_refused(11, "footer_checksum_in_version_1", footer(carrying(SUM)))
+footer_refused(11, "footer_second_checksum_after_the_first_minimum_2", footer(carrying(SUM, each=u32(SUM)), version=2, minimum=2))
+footer_carries("footer_second_checksum_after_the_first", 2, each=u32(SUM))
+WITHOUT = items([cluster(0, 5)])
+footer_refused(7, "footer_checksum_missing_version_2", footer(WITHOUT, version=2))
+footer_refused(7, "footer_checksum_missing_minimum_2", footer(WITHOUT, version=2, minimum=2))
+footer_refused(7, "footer_checksum_missing_version_65535", footer(WITHOUT, version=65535))
+footer_refused(7, "footer_checksum_of_3_bytes", footer(items([cluster(0, 5, spare=bytes(3))]), version=2))
+# What follows the record is no part of it.
+footer_refused(7, "footer_first_checksum_missing", footer(items([cluster(0, 5), cluster(5, 5, checksum=SUM)]), version=2))
+footer_refused(7, "footer_second_checksum_missing", footer(items([cluster(0, 5, checksum=SUM), cluster(5, 5)]), version=2))
+footer_refused(7, "footer_checksum_behind_its_record", footer(items([cluster(0, 5)], spare=u32(SUM)), version=2))
+footer_refused(18, "footer_range_before_checksum", footer(items([cluster(0, 5, link(1, 1000))]), version=2))
+footer_refused(17, "footer_stored_size_before_checksum", footer(items([cluster(0, 5, link(5, 0, 4))]), version=2))
+footer_refused(7, "footer_checksum_before_the_next_first_entry", footer(items([cluster(0, 5), cluster(4, 5)]), version=2))
+footer_refused(19, "footer_first_entry_after_a_checksum", footer(items([cluster(0, 5, checksum=SUM), cluster(4, 5)]), version=2))
+
+
+def footer_spare(where, words, counts, rows=((), ()), clusters=EMPTY, first_clusters=EMPTY, **parts):
+    """Refused where the version is the minimum, and accepted where it is above; `first_clusters` are those at version 1."""
+    footer_refused(11, f"footer_spare_in_{where}", footer(first_clusters, **parts), words)
+    footer_refused(11, f"footer_spare_in_{where}_minimum_2", footer(clusters, version=2, minimum=2, **parts), words)
+    footer_accepted(f"footer_spare_in_{where}_version_2", footer(clusters, version=2, **parts), words, counts, rows)
+    footer_accepted(f"footer_spare_in_{where}_version_3", footer(clusters, version=3, minimum=2, **parts), words, counts, rows)
 
 
 SPARE = b"\xff"
 footer_spare("payload", (0, 0), (0, 0), spare=SPARE)
 footer_spare("extension", (0, 0), (0, 0), extension=items([], spare=SPARE))
 footer_spare("groups", (0, 0), (0, 0), groups=items([], spare=SPARE))
-footer_spare("clusters", (4, 0), (1, 0), ((0, 5, 0, 0), ()), clusters=items([cluster(0, 5)], spare=SPARE))
-footer_spare("cluster", (4, 0), (1, 0), ((0, 5, 0, 0), ()), clusters=items([cluster(0, 5, spare=SPARE)]))
+footer_spare("clusters", (5, 0), (1, 0), (SUM_ROW, ()), carrying(SUM, spare=SPARE), items([cluster(0, 5)], spare=SPARE))
+footer_spare("cluster", (5, 0), (1, 0), (SUM_ROW, ()), carrying(SUM, each=SPARE), items([cluster(0, 5, spare=SPARE)]))
 footer_spare("metadata", (0, 2), (0, 1), ((), (7, 8)), metadata=items([link(7, 8)], spare=SPARE))
 
 # The header's refusal comes before all of the footer's.
 footer_refused(3, "footer_beside_a_header_checksum_bit", SMALLEST_FOOTER, beside=flipped(SMALLEST, 47), place=1)
 footer_refused(15, "footer_beside_a_circle", b"", beside=header([field(1), field(0)]), place=1)
 footer_refused(9, "footer_beside_an_ill_formed_name", SMALLEST_FOOTER, beside=header(name=b"\xf4\x90\x80\x80"), place=1)
+# A header stays at minimum 1.
+footer_refused(5, "footer_beside_minimum_2", SMALLEST_FOOTER, beside=envelope(SMALLEST[4:-4], 2, 2), place=1)
 footer_refused(1, "footer_beside_1048577_bytes", SMALLEST_FOOTER, beside=b"", place=1, zeros_for=1, zeros=LONGEST + 1)
 
 # Page lists.
@@ -409,6 +464,112 @@ pages_refused(3, "pages_beside_a_header_checksum_bit", SMALLEST_PAGE_LIST, flipp
 pages_refused(14, "pages_beside_parent_1_of_one", b"", header([field(1)]), place=1)
 pages_refused(9, "pages_beside_an_ill_formed_name", SMALLEST_PAGE_LIST, header([field(0, name=b"\xf5")]), place=1)
 pages_refused(1, "pages_beside_1048577_bytes", SMALLEST_PAGE_LIST, b"", place=1, zeros_for=1, zeros=LONGEST + 1)
+
+# Page lists for the row of a cluster, of which the call gets the entry count and the checksum.
+
+
+def paired(name, checksum, content, line, beside=ONE, words=5, entries=5, file_length=1000, **more):
+    case(8, name, line, file_length, entries, (words, checksum), first=beside, second=content, **more)
+
+
+def pairing_accepted(name, checksum, content, count=1, rows=(0, 5, 0, 20, 980), words=5, **more):
+    paired(name, checksum, content, f" accepted {count}" + table(words, rows), words=words, **more)
+
+
+def pairing_refused(number, name, checksum, content=b"", words=5, place=3, **more):
+    paired(name, checksum, content, f" refused {place} {number}" + kept((words,)), words=words, **more)
+
+
+def number_of(content):
+    """The number that an envelope ends with."""
+    return int.from_bytes(checksum_of(content), "little")
+
+
+PAIRED = one(page(5, 20, 980))
+ITS_OWN = number_of(PAIRED)
+OTHER = ITS_OWN ^ 1
+pairing_accepted("pairing_its_own_checksum", ITS_OWN, PAIRED)
+pairing_accepted("pairing_no_checksum", NONE, PAIRED)
+pairing_accepted("pairing_room_left", ITS_OWN, PAIRED, words=9)
+pairing_accepted("pairing_smallest", number_of(SMALLEST_PAGE_LIST), SMALLEST_PAGE_LIST, 0, (), 0, beside=SMALLEST)
+pairing_refused(26, "pairing_another_checksum", OTHER, PAIRED)
+pairing_refused(26, "pairing_another_highest_bit", ITS_OWN ^ 1 << 31, PAIRED)
+pairing_refused(26, "pairing_checksum_0", 0, PAIRED)
+pairing_refused(26, "pairing_checksum_below_none", NONE - 1, PAIRED)
+pairing_refused(26, "pairing_checksum_above_none", NONE + 1, PAIRED)
+pairing_refused(26, "pairing_its_own_plus_2_to_32", NONE + ITS_OWN, PAIRED)
+pairing_refused(26, "pairing_checksum_of_64_bits", 2**64 - 1, PAIRED)
+# 0 is a checksum like others: with these four spare bytes the page list ends with it.
+ZERO_SUM = page_list(items([items([page(5, 20, 980)])]), b"\x4f\x76\x37\xc2", version=2)
+assert number_of(ZERO_SUM) == 0
+pairing_accepted("pairing_checksum_0_is_its_own", 0, ZERO_SUM)
+pairing_accepted("pairing_checksum_0_and_none", NONE, ZERO_SUM)
+pairing_refused(26, "pairing_checksum_0_plus_2_to_33", 2 * NONE, ZERO_SUM)
+# The header's refusals come first, and then 1 to 3, whatever the row has.
+pairing_refused(3, "pairing_after_the_header_checksum", OTHER, PAIRED, beside=flipped(ONE, 20), place=1)
+pairing_refused(5, "pairing_after_the_header_minimum_2", OTHER, PAIRED, beside=envelope(ONE[4:-4], 2, 2), place=1)
+pairing_refused(15, "pairing_after_a_circle", OTHER, b"", beside=header([field(1), field(0)]), place=1)
+pairing_refused(1, "pairing_after_a_header_of_1048577_bytes", OTHER, PAIRED, beside=b"", place=1, zeros_for=1, zeros=LONGEST + 1)
+pairing_refused(1, "pairing_of_1048577_bytes", OTHER, zeros_for=2, zeros=LONGEST + 1)
+pairing_refused(1, "pairing_of_1048577_bytes_and_none", NONE, zeros_for=2, zeros=LONGEST + 1)
+pairing_refused(2, "pairing_of_no_bytes", OTHER)
+pairing_refused(2, "pairing_of_no_bytes_checksum_0", 0)
+pairing_refused(2, "pairing_of_7_bytes", OTHER, PAIRED[:7])
+pairing_refused(2, "pairing_of_7_bytes_and_their_last_4", number_of(PAIRED[:7]), PAIRED[:7])
+pairing_refused(3, "pairing_of_1048576_bytes", OTHER, zeros_for=2, zeros=LONGEST)
+DAMAGED = flipped(PAIRED, 20)
+pairing_refused(3, "pairing_damaged", OTHER, DAMAGED)
+pairing_refused(3, "pairing_damaged_and_the_number_at_its_end", ITS_OWN, DAMAGED)
+pairing_refused(3, "pairing_damaged_and_the_checksum_of_its_bytes", zlib.crc32(DAMAGED[:-4]), DAMAGED)
+pairing_refused(3, "pairing_damaged_and_none", NONE, DAMAGED)
+
+
+def pairing_before(number, what, content, **more):
+    """26 comes before this number, which is given for the page list's own checksum and for none."""
+    pairing_refused(26, f"pairing_before_{what}", number_of(content) ^ 1, content, **more)
+    pairing_refused(number, f"pairing_its_own_{what}", number_of(content), content, **more)
+    pairing_refused(number, f"pairing_none_{what}", NONE, content, **more)
+
+
+pairing_before(4, "minimum_0", page_list(minimum=0))
+pairing_before(4, "minimum_above_version", page_list(minimum=2))
+pairing_before(5, "minimum_2", page_list(version=2, minimum=2))
+pairing_before(7, "payload_missing", envelope(b""))
+pairing_before(11, "spare_byte", page_list(items([items([page(5, 20, 980)])]), SPARE))
+pairing_before(17, "page_size", one(page(5, 21, 0)))
+pairing_before(18, "page_range", one(page(5, 20, 981)))
+pairing_before(19, "columns", page_list())
+pairing_before(19, "another_entry_count", PAIRED, entries=6)
+pairing_before(20, "room", PAIRED, words=4)
+
+# A file, whose pages come first, then the page lists of its two clusters, then its footer. The footer is read, and then the page list of each
+# cluster, from where its row has it, with the row's entry count and checksum, and into one table of pages. The page of the second
+# cluster was written anew at 24; the list of before has the same counts, and names the page at 12.
+FIRST_LIST, SECOND_LIST, STALE_LIST = one(page(3, 12, 0)), one(page(3, 12, 24)), one(page(3, 12, 12))
+FIRST_LINK, SECOND_LINK, FOOTER_AT = link(40, 36), link(40, 76), 116
+FILE_FOOTER_1 = footer(items([cluster(0, 3, FIRST_LINK), cluster(3, 3, SECOND_LINK)]), named=checksum_of(ONE))
+SUMS = number_of(FIRST_LIST), number_of(SECOND_LIST)
+FILE_FOOTER_2 = footer(items([cluster(0, 3, FIRST_LINK, SUMS[0]), cluster(3, 3, SECOND_LINK, SUMS[1])]), named=checksum_of(ONE), version=2)
+
+
+def file(name, carried, lists, answers):
+    """`answers` has for each list the answer, and the offset of the page that the table then has, if it has one."""
+    first, second = SUMS if carried else (NONE, NONE)
+    line = " accepted 2 0" + table(10, (0, 3, 40, 36, first, 3, 3, 40, 76, second)) + table(0)
+    for answer, offset in answers:
+        line += f" {answer}" + table(7, () if offset is None else (0, 3, 0, 12, offset))
+    content = bytes(36) + b"".join(lists) + (FILE_FOOTER_2 if carried else FILE_FOOTER_1)
+    case(9, name, line, len(content), FOOTER_AT, (10, 0, 7), first=ONE, second=content)
+
+
+TAKEN, STALE = "accepted 1", "refused 3 26"
+file("file_version_1", False, (FIRST_LIST, SECOND_LIST), ((TAKEN, 0), (TAKEN, 24)))
+file("file_version_1_stale", False, (FIRST_LIST, STALE_LIST), ((TAKEN, 0), (TAKEN, 12)))
+file("file_version_2", True, (FIRST_LIST, SECOND_LIST), ((TAKEN, 0), (TAKEN, 24)))
+file("file_version_2_stale", True, (FIRST_LIST, STALE_LIST), ((TAKEN, 0), (STALE, 0)))
+file("file_version_2_first_stale", True, (STALE_LIST, SECOND_LIST), ((STALE, None), (TAKEN, 24)))
+file("file_version_2_lists_swapped", True, (SECOND_LIST, FIRST_LIST), ((STALE, None), (STALE, None)))
+file("file_version_2_damaged", True, (FIRST_LIST, flipped(SECOND_LIST, 24)), ((TAKEN, 0), ("refused 3 3", 0)))
 
 # Pages to decode: `words` are lent, and the elements are put from `start` on.
 

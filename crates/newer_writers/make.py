@@ -1,8 +1,9 @@
 #!/usr/bin/env python3
 """Writes data/cases: envelopes, each beside itself with one byte added at the end of one of its frames or of its payload, for every frame in
-turn. A case is 32 bytes (eight little-endian words: kind, which envelope has the added byte, the byte's place, lengths of plain header,
-newer header, plain other, newer other, and the file length) and then four envelopes, each in 512 bytes.
-Kinds: 1 header, 2 footer beside its header, 3 page list beside its header. Document 01 says how the envelopes are written."""
+turn; and stdout, the counts that are due. A case is 44 bytes (eleven little-endian words: kind, which envelope has the added byte, the
+byte's place, lengths of plain header, newer header, plain other, newer other, the file length, and the checksums that a raised footer has for
+its clusters) and then four envelopes, each in 512 bytes. Kinds: 1 header, 2 footer beside its header, 3 page list beside its header, 4 footer
+of version 1 beside its header, and raised. Documents 01 and 02 say how the envelopes are written."""
 import pathlib
 import struct
 import zlib
@@ -31,9 +32,9 @@ class Writer:
         body = b"".join(items) + self.spare()
         return struct.pack("<iI", -(8 + len(body)), len(items)) + body
 
-    def envelope(self, payload):
+    def envelope(self, payload, version=1):
         body = payload + self.spare()
-        version = 1 if self.extended is None else 2
+        version = version if self.extended is None else 2
         front = struct.pack("<HH", version, 1) + body
         return front + struct.pack("<I", zlib.crc32(front))
 
@@ -65,15 +66,20 @@ def header(w, size):
     return w.envelope(struct.pack("<Q", 0) + string(b"events") + string(b"") + fields + columns + aliases)
 
 
-def footer(w, checksum, size):
+# The checksums that footers of version 2 and above have for their page lists.
+SUMS = (0x04030201, 0, 0xFFFFFFFF)
+
+
+def footer(w, checksum, size, version=2):
     clusters, first = [], 0
     empty = w.list([]), w.list([])
     for i in range(size):
-        clusters.append(w.record(struct.pack("<QQIIQ", first, i + 1, 40 + i, 40 + i, 1000 * i)))
+        carried = struct.pack("<I", SUMS[i]) if version > 1 else b""
+        clusters.append(w.record(struct.pack("<QQIIQ", first, i + 1, 40 + i, 40 + i, 1000 * i) + carried))
         first += i + 1
     clusters = w.list(clusters)
     links = w.list([struct.pack("<IIQ", 7, 7, 100 * i) for i in range(size)])
-    return w.envelope(struct.pack("<QI", 0, checksum) + empty[0] + empty[1] + clusters + links)
+    return w.envelope(struct.pack("<QI", 0, checksum) + empty[0] + empty[1] + clusters + links, version)
 
 
 def page_list(w, size):
@@ -93,7 +99,8 @@ def frames(write):
 
 
 def case(kind, which, place, plain_header, newer_header, plain=b"", newer=b""):
-    head = struct.pack("<8I", kind, which, place, len(plain_header), len(newer_header), len(plain), len(newer), FILE_LENGTH)
+    lengths = [len(e) for e in (plain_header, newer_header, plain, newer)]
+    head = struct.pack("<11I", kind, which, place, *lengths, FILE_LENGTH, *SUMS)
     return head + b"".join(e.ljust(ROOM, b"\0") for e in (plain_header, newer_header, plain, newer))
 
 
@@ -108,39 +115,54 @@ def checksum_of(envelope):
     return struct.unpack("<I", envelope[-4:])[0]
 
 
-def main():
-    out = []
-    # A changed word is told apart in every row of a table without strings, counted or not, and in a counted row of a field, but for the place of
-    # the one string that is empty: a table of columns has 32 words and one of aliases 4, clusters 16 and links 8, pages 80.
-    told = {1: 0, 2: 0, 3: 0}
+# A footer of version 2 stays at it, and one of version 1 is raised to it.
+FOOTERS = ((2, 2), (4, 1))
+
+
+def cases():
     for size in (0, 1, 4, 6):
         plain = header(Writer(), size)
         for k in range(frames(lambda w: header(w, size))):
             newer = header(Writer(k), size)
-            out.append(case(1, 1, added(newer), plain, newer))
-            told[1] += 14 * size + 32 + 4
+            yield size, case(1, 1, added(newer), plain, newer)
             if size == 4:
-                f, g = footer(Writer(), checksum_of(plain), 2), footer(Writer(), checksum_of(newer), 2)
-                out.append(case(2, 1, added(newer), plain, newer, f, g))
+                for kind, version in FOOTERS:
+                    f, g = footer(Writer(), checksum_of(plain), 2, version), footer(Writer(), checksum_of(newer), 2)
+                    yield size, case(kind, 1, added(newer), plain, newer, f, g)
                 p = page_list(Writer(), size)
-                out.append(case(3, 1, added(newer), plain, newer, p, p))
-        for n in (0, 1, 3):
-            f = footer(Writer(), checksum_of(plain), n)
+                yield size, case(3, 1, added(newer), plain, newer, p, p)
+        # Of the header a footer needs no more than that it is accepted: two of them are enough.
+        for n in (0, 1, 3) if size in (0, 4) else ():
             for k in range(frames(lambda w: footer(w, checksum_of(plain), n))):
                 newer = footer(Writer(k), checksum_of(plain), n)
-                out.append(case(2, 2, added(newer), plain, plain, f, newer))
+                for kind, version in FOOTERS:
+                    yield size, case(kind, 2, added(newer), plain, plain, footer(Writer(), checksum_of(plain), n, version), newer)
         p = page_list(Writer(), size)
         for k in range(frames(lambda w: page_list(w, size))):
             newer = page_list(Writer(k), size)
-            out.append(case(3, 2, added(newer), plain, plain, p, newer))
-    told[2] = (16 + 8) * sum(1 for c in out if c[0] == 2)
-    told[3] = 80 * sum(1 for c in out if c[0] == 3)
-    path = pathlib.Path(__file__).parent / "data" / "cases"
-    path.parent.mkdir(exist_ok=True)
-    path.write_bytes(b"".join(out))
-    for kind, name in ((1, "header"), (2, "footer"), (3, "page list")):
-        n = sum(1 for c in out if c[0] == kind)
-        print(f"{name}: {n} added bytes, each of 256 values: {256 * n} read the same, {256 * n} refused 11 at version 1, {told[kind]} changed words told apart")
+            yield size, case(3, 2, added(newer), plain, plain, p, newer)
+
+
+def told(kind, size):
+    """How many changed words are told apart: every word of a table without strings, counted or not, and of a row of a field that is counted all but
+    the place of the one string that is empty. The tables have 32 words of columns and 4 of aliases, 20 of clusters and 8 of links, 80 of pages."""
+    return {1: 14 * size + 32 + 4, 2: 20 + 8, 3: 80, 4: 20 + 8}[kind]
+
+
+def main():
+    sized = list(cases())
+    lines = []
+    for kind, name in ((1, "header"), (2, "footer"), (4, "footer raised from version 1"), (3, "page list"), (3, "page list and its row")):
+        sizes = [size for size, c in sized if c[0] == kind]
+        n, words = 256 * len(sizes), sum(told(kind, size) for size in sizes)
+        lines.append(f"{name}: {len(sizes)} added bytes, each of 256 values: {n} read the same, {n} refused 11 where the version is the minimum, {words} changed words told apart\n")
+    # A page list beside a newer header is itself the same, and so is its row.
+    changed = sum(256 for _, c in sized if (c[0], c[4]) == (3, 2))
+    lines.append(f"page list and an old row: {changed} refused 26\n")
+    here = pathlib.Path(__file__).parent
+    (here / "data").mkdir(exist_ok=True)
+    (here / "data" / "cases").write_bytes(b"".join(c for _, c in sized))
+    (here / "stdout").write_text("".join(lines))
 
 
 if __name__ == "__main__":

@@ -23,6 +23,7 @@ pub fn cluster_row(table: &[u64], row: u64) -> ClusterRow
             size: rows::word(table, CLUSTER_WORDS, row, 2),
             offset: rows::word(table, CLUSTER_WORDS, row, 3),
         },
+        checksum: rows::word(table, CLUSTER_WORDS, row, 4),
     }
 }
 
@@ -59,6 +60,7 @@ pub fn put_cluster(table: &mut [u64], i: usize, row: ClusterRow)
             row.entries,
             page_list.size,
             page_list.offset,
+            row.checksum,
         ];
         rows::put_words(table, CLUSTER_WORDS * i, &words);
     }

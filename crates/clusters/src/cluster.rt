@@ -11,7 +11,7 @@ ghost use mathlib.Core.Path.{_≡_};
 ghost use Rattle.wire.specs.Reading.{tested, counted};
 ghost use Rattle.frames.specs.Frames.{recordOf};
 ghost use Rattle.wire.specs.Answers.{numberStep};
-ghost use Rattle.clusters.specs.Clusters.{startsAt, entryCount, cluster, clusterItems, clusterList};
+ghost use Rattle.clusters.specs.Clusters.{startsAt, entryCount, listChecksum, cluster, clusterItems, clusterList};
 ghost use Rattle.clusters.specs.Answers.{clusterStep};
 
 // The verdict on an entry count with four flags above it: flag 60, the other flags, and the running sum, without a sum that
@@ -56,21 +56,37 @@ fn entries_at(s: &[u8], at: usize, sum: u64) -> NumberStep
     }
 }
 
+// The checksum of a cluster's page list, where the footer carries these.
+fn list_checksum_at(s: &[u8], carried: bool, at: usize) -> NumberStep
+    ensures { λ r. ⌜ numberStep r ≡ listChecksum carried (now (s .entry)) at ⌝ }
+{
+    if carried {
+        return wire::number_4(s, at);
+    }
+    NumberStep::Found(rows::NO_CHECKSUM, at)
+}
+
 // A cluster's content, after clusters with `sum` entries.
-fn cluster_at(s: &[u8], at: usize, file: u64, sum: u64) -> ClusterStep
-    ensures { λ r. ⌜ clusterStep r ≡ cluster file sum (now (s .entry)) at ⌝ }
+fn cluster_at(s: &[u8], carried: bool, at: usize, file: u64, sum: u64) -> ClusterStep
+    ensures { λ r. ⌜ clusterStep r ≡ cluster carried file sum (now (s .entry)) at ⌝ }
 {
     match first_entry_at(s, at, sum) {
         NumberStep::Found(first_entry, word_at) => match entries_at(s, word_at, sum) {
             NumberStep::Found(entries, link_place) => match links::link_at(s, link_place, file) {
-                LinkStep::Found(page_list, next) => ClusterStep::Found(
-                    ClusterRow {
-                        first_entry,
-                        entries,
-                        page_list,
-                    },
-                    next,
-                ),
+                LinkStep::Found(page_list, checksum_at) => {
+                    match list_checksum_at(s, carried, checksum_at) {
+                        NumberStep::Found(checksum, next) => ClusterStep::Found(
+                            ClusterRow {
+                                first_entry,
+                                entries,
+                                page_list,
+                                checksum,
+                            },
+                            next,
+                        ),
+                        NumberStep::Refused(f) => ClusterStep::Refused(f),
+                    }
+                }
                 LinkStep::Refused(f) => ClusterStep::Refused(f),
             },
             NumberStep::Refused(f) => ClusterStep::Refused(f),
@@ -80,12 +96,20 @@ fn cluster_at(s: &[u8], at: usize, file: u64, sum: u64) -> ClusterStep
 }
 
 // A cluster in its record frame.
-pub fn cluster_record(s: &[u8], strict: bool, at: usize, file: u64, sum: u64) -> ClusterStep
-    ensures { λ r. ⌜ clusterStep r ≡ recordOf strict (cluster file sum) (now (s .entry)) at ⌝ }
+pub fn cluster_record(
+    s: &[u8],
+    carried: bool,
+    strict: bool,
+    at: usize,
+    file: u64,
+    sum: u64,
+) -> ClusterStep
+    ensures { λ r. ⌜ clusterStep r ≡ recordOf strict (cluster carried file sum) (now (s .entry)) at ⌝ }
 {
     match frames::record_head(s, at) {
         FrameStep::Found(start, stop) => match cluster_at(
             frames::up_to(s, stop),
+            carried,
             start,
             file,
             sum,
@@ -101,15 +125,22 @@ pub fn cluster_record(s: &[u8], strict: bool, at: usize, file: u64, sum: u64) ->
 }
 
 // The verdict on the clusters of a list at `list`, whose head was read.
-fn scan_clusters(s: &[u8], strict: bool, list: usize, head: ListHead, file: u64) -> NumberStep
-    ensures { λ r. ⌜ numberStep r ≡ counted (clusterItems (now (s .entry)) strict list head file) ⌝ }
+fn scan_clusters(
+    s: &[u8],
+    carried: bool,
+    strict: bool,
+    list: usize,
+    head: ListHead,
+    file: u64,
+) -> NumberStep
+    ensures { λ r. ⌜ numberStep r ≡ counted (clusterItems (now (s .entry)) carried strict list head file) ⌝ }
 {
     let count = head.count;
     let mut sum: u64 = 0;
     let mut i = 0;
     let mut at = head.start;
     while i < count {
-        match cluster_record(s, strict, at, file, sum) {
+        match cluster_record(s, carried, strict, at, file, sum) {
             ClusterStep::Found(row, next) => {
                 sum += row.entries;
                 at = next;
@@ -124,12 +155,12 @@ fn scan_clusters(s: &[u8], strict: bool, list: usize, head: ListHead, file: u64)
 }
 
 // The verdict on the list of clusters: how many they are, and the place after their frame.
-pub fn scan_cluster_list(s: &[u8], strict: bool, at: usize, file: u64) -> NumberStep
-    ensures { λ r. ⌜ numberStep r ≡ counted (clusterList strict file (now (s .entry)) at) ⌝ }
+pub fn scan_cluster_list(s: &[u8], carried: bool, strict: bool, at: usize, file: u64) -> NumberStep
+    ensures { λ r. ⌜ numberStep r ≡ counted (clusterList carried strict file (now (s .entry)) at) ⌝ }
 {
     match list_frames::list_head_at_most(s, at, rows::MOST_CLUSTERS) {
         ListStep::Found(head, stop) => {
-            let scanned = scan_clusters(frames::up_to(s, stop), strict, at, head, file);
+            let scanned = scan_clusters(frames::up_to(s, stop), carried, strict, at, head, file);
             list_frames::close_list(scanned, strict, at, head.count, stop)
         }
         ListStep::Refused(f) => NumberStep::Refused(f),

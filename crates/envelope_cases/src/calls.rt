@@ -11,18 +11,22 @@ const COLUMN_TYPE: usize = 1;
 
 const PLANE: usize = 1;
 
-// The entries of the cluster, or the elements of the page.
+// The entries of the cluster, or the elements of the page, or the place of a file's footer.
 const ENTRIES: usize = 2;
 
 const ELEMENTS: usize = 2;
 
+const FOOTER_AT: usize = 2;
+
 // How many words are lent of each table. A page call is lent the first, and has two other numbers for the rest:
-// the starting element, and 1 where a checksum follows the page.
+// the starting element, and 1 where a checksum follows the page. A pairing is lent the first too, and has the checksum of a row.
 const FIRST_TABLE: usize = 3;
 
 const SECOND_TABLE: usize = 4;
 
 const START: usize = 4;
+
+const ROW_CHECKSUM: usize = 4;
 
 const THIRD_TABLE: usize = 5;
 
@@ -39,7 +43,9 @@ pub fn call(case: [u64; 10], first: &[u8], second: &[u8]) {
         4 => call_decode(case, first),
         5 => call_encode(case, first),
         6 => show::hex(exports::rnt_crc32(first) as u64, 8),
-        _ => call_place(case, first, second),
+        7 => call_place(case, first, second),
+        8 => call_pairing(case, first, second),
+        _ => call_file(case, first, second),
     }
 }
 
@@ -61,8 +67,12 @@ fn call_header(case: [u64; 10], envelope: &[u8]) {
 
 fn call_footer(case: [u64; 10], header: &[u8], footer: &[u8]) {
     let mut a = [9u64; 64];
+    read_clusters(case, header, footer, lent(&mut a, case[FIRST_TABLE]));
+}
+
+// Answers how many clusters there are.
+fn read_clusters(case: [u64; 10], header: &[u8], footer: &[u8], clusters: &mut [u64]) -> u64 {
     let mut b = [9u64; 64];
-    let clusters = lent(&mut a, case[FIRST_TABLE]);
     let metadata = lent(&mut b, case[SECOND_TABLE]);
     let mut result = [9u64; 2];
     let code = exports::rnt_read_footer(
@@ -76,6 +86,7 @@ fn call_footer(case: [u64; 10], header: &[u8], footer: &[u8]) {
     show::answer(code, &result, 0);
     show::words(clusters);
     show::words(metadata);
+    result[0]
 }
 
 fn call_page_list(case: [u64; 10], header: &[u8], page_list: &[u8]) {
@@ -87,6 +98,90 @@ fn call_page_list(case: [u64; 10], header: &[u8], page_list: &[u8]) {
         page_list,
         case[ENTRIES],
         case[FILE_LENGTH],
+        pages,
+        &mut result,
+    );
+    show::answer(code, &result, 0);
+    show::words(pages);
+}
+
+fn call_pairing(case: [u64; 10], header: &[u8], page_list: &[u8]) {
+    let mut a = [9u64; 64];
+    let pages = lent(&mut a, case[FIRST_TABLE]);
+    pair(
+        header,
+        page_list,
+        case[ENTRIES],
+        case[ROW_CHECKSUM],
+        case[FILE_LENGTH],
+        pages,
+    );
+}
+
+// Of a file, which ends with its footer, the footer is read, and then the page list of each cluster by its row.
+fn call_file(case: [u64; 10], header: &[u8], file: &[u8]) {
+    let mut a = [9u64; 64];
+    let mut b = [9u64; 64];
+    let clusters = lent(&mut a, case[FIRST_TABLE]);
+    let pages = lent(&mut b, case[THIRD_TABLE]);
+    let at = case[FOOTER_AT] as usize;
+    let footer = reader::text_of(file, at, std::num::wrapping_sub_usize(file.len(), at));
+    let count = read_clusters(case, header, footer, clusters);
+    pair_rows(case, header, file, clusters, count, pages);
+}
+
+fn pair_rows(
+    case: [u64; 10],
+    header: &[u8],
+    file: &[u8],
+    clusters: &[u64],
+    count: u64,
+    pages: &mut [u64],
+) {
+    let mut i = 0;
+    while i < count {
+        pair_row(case, header, file, clusters, i, pages);
+        i += 1;
+    }
+}
+
+// The page list is taken from the file by the row's link.
+fn pair_row(
+    case: [u64; 10],
+    header: &[u8],
+    file: &[u8],
+    clusters: &[u64],
+    i: u64,
+    pages: &mut [u64],
+) {
+    let row = cluster_rows::cluster_row(clusters, i);
+    let link = row.page_list;
+    let page_list = reader::text_of(file, link.offset as usize, link.size as usize);
+    pair(
+        header,
+        page_list,
+        row.entries,
+        row.checksum,
+        case[FILE_LENGTH],
+        pages,
+    );
+}
+
+fn pair(
+    header: &[u8],
+    page_list: &[u8],
+    entries: u64,
+    checksum: u64,
+    file_length: u64,
+    pages: &mut [u64],
+) {
+    let mut result = [9u64; 1];
+    let code = exports::rnt_read_paired_page_list(
+        header,
+        page_list,
+        entries,
+        checksum,
+        file_length,
         pages,
         &mut result,
     );

@@ -6,8 +6,8 @@ use libc::STDOUT_FILENO;
 ghost use mathlib.Core.Path.{_≡_};
 ghost use lib.ListN.{length};
 
-// A case is ten numbers of eight bytes each, of which `calls` names most, and two parts behind them: envelopes or a page, or words and a
-// plane. How many bytes the first part has; the second has the rest.
+// A case is ten numbers of eight bytes each, of which `calls` names most, and two parts behind them: envelopes or a page, a header and a
+// file, or words and a plane. How many bytes the first part has; the second has the rest.
 const FIRST_PART: usize = 7;
 
 // Which part, 1 or 2, is zeros instead, 0 for neither; and how many zeros.

@@ -5,9 +5,18 @@ ghost use Rattle.checksum.specs.Crc.{crc32};
 ghost use Rattle.header.specs.Tables.{headerOf};
 ghost use Rattle.footer.specs.Tables.{footerBeside};
 ghost use Rattle.page_list.specs.Tables.{pageListBeside};
+ghost use Rattle.pairing.specs.Paired.{pairedBeside};
 ghost use Rattle.page_rules.specs.Page.{decodeOutcome, decoded};
 ghost use Rattle.outcome.specs.Outcome.{codeOf};
 ghost use Rattle.exports.specs.Calls.{BytesCall, isUtf8, HeaderCall, FooterCall, PageListCall, EncodeCall, asks};
+
+// What a call answers whose result has too few words: nothing is read, and nothing is written.
+const RESULT_TOO_SHORT: u32 = 4294967295;
+
+// A column type has two bytes. Any number above is unknown, which is refused before all else: 23, in envelope 4.
+const LARGEST_TYPE: u32 = 65535;
+
+const UNKNOWN_TYPE: u32 = 4 * 256 + 23;
 
 #[no_mangle]
 pub extern "C" fn rnt_crc32(bytes: &[u8]) -> u32
@@ -37,7 +46,7 @@ pub extern "C" fn rnt_read_header(
     ensures { λ r. ⌜ HeaderCall (headerOf (now (envelope .entry))) (now (fields .entry)) (now (fields .exit)) (now (columns .entry)) (now (columns .exit)) (now (aliases .entry)) (now (aliases .exit)) (now (result .entry)) (now (result .exit)) r ⌝ }
 {
     if result.len() < 7 {
-        return 4294967295;
+        return RESULT_TOO_SHORT;
     }
     let answer = header_reader::read_header(envelope, fields, columns, aliases);
     answers::tell_header(answer, result)
@@ -55,7 +64,7 @@ pub extern "C" fn rnt_read_footer(
     ensures { λ r. ⌜ FooterCall (footerBeside (now (header .entry)) (now (footer .entry)) «file_length») (now (clusters .entry)) (now (clusters .exit)) (now (metadata .entry)) (now (metadata .exit)) (now (result .entry)) (now (result .exit)) r ⌝ }
 {
     if result.len() < 2 {
-        return 4294967295;
+        return RESULT_TOO_SHORT;
     }
     let answer = footer::read_footer(header, footer, file_length, clusters, metadata);
     answers::tell_footer(answer, result)
@@ -73,13 +82,39 @@ pub extern "C" fn rnt_read_page_list(
     ensures { λ r. ⌜ PageListCall (pageListBeside (now (header .entry)) (now («page_list» .entry)) entries «file_length») (now (pages .entry)) (now (pages .exit)) (now (result .entry)) (now (result .exit)) r ⌝ }
 {
     if result.len() < 1 {
-        return 4294967295;
+        return RESULT_TOO_SHORT;
     }
     let answer = page_list::read_page_list(header, page_list, entries, file_length, pages);
     answers::tell_page_list(answer, result)
 }
 
-// A column type above 65535 is unknown, which is refused before all else. No count is handed over: it is that of the elements asked for.
+#[no_mangle]
+pub extern "C" fn rnt_read_paired_page_list(
+    header: &[u8],
+    page_list: &[u8],
+    entries: u64,
+    checksum: u64,
+    file_length: u64,
+    pages: &mut [u64],
+    result: &mut [u64],
+) -> u32
+    ensures { λ r. ⌜ PageListCall (pairedBeside (now (header .entry)) (now («page_list» .entry)) entries checksum «file_length») (now (pages .entry)) (now (pages .exit)) (now (result .entry)) (now (result .exit)) r ⌝ }
+{
+    if result.len() < 1 {
+        return RESULT_TOO_SHORT;
+    }
+    let answer = pairing::read_paired_page_list(
+        header,
+        page_list,
+        entries,
+        checksum,
+        file_length,
+        pages,
+    );
+    answers::tell_page_list(answer, result)
+}
+
+// No count is handed over: it is that of the elements asked for.
 #[no_mangle]
 pub extern "C" fn rnt_decode_page(
     column_type: u32,
@@ -92,8 +127,8 @@ pub extern "C" fn rnt_decode_page(
     ensures answers { λ r. ⌜ r ≡ codeOf (decodeOutcome «column_type» elements (asks checksum) (now (page .entry)) (length (now (words .entry))) start) ⌝ }
     ensures leaves { λ _. ⌜ now (words .exit) ≡ decoded «column_type» elements (asks checksum) (now (page .entry)) (now (words .entry)) start ⌝ }
 {
-    if 65535 < column_type {
-        return 1047;
+    if LARGEST_TYPE < column_type {
+        return UNKNOWN_TYPE;
     }
     let answer = page_decoding::decode_page(
         column_type as u16,
@@ -119,11 +154,11 @@ pub extern "C" fn rnt_encode_page(
     ensures { λ r. ⌜ EncodeCall «column_type» elements checksum (now (words .entry)) start (now (page .entry)) (now (page .exit)) (now (result .entry)) (now (result .exit)) r ⌝ }
 {
     if result.len() < 1 {
-        return 4294967295;
+        return RESULT_TOO_SHORT;
     }
-    if 65535 < column_type {
+    if LARGEST_TYPE < column_type {
         result[0] = 0;
-        return 1047;
+        return UNKNOWN_TYPE;
     }
     let answer = page_encoding::encode_page(
         column_type as u16,

@@ -1,36 +1,43 @@
--- The loop that writes the rows of clusters, beside the sum of their entries.
+-- The loop that writes the rows of clusters that were accepted, read again by the places of their numbers.
 use Prim.Native.Nat.{ℕ, _+_, _*_, _≤_, _<_}
-use mathlib.Core.Path.{_≡_, refl}
-use mathlib.Core.Bool.{Bool}
+use mathlib.Core.Path.{_≡_, refl, sym, ap, _∙_}
+use mathlib.Core.Bool.{Bool, true}
 use mathlib.Core.List.{List, []}
-use lib.ListN.{length}
-use Rattle.numbers.specs.Rows.{put, flat, over}
-use Rattle.wire.specs.Reading.{found, rowsOf}
-use Rattle.frames.specs.Frames.{recordOf, items}
-use Rattle.frames.proofs.Loops.{filled-all, reached-none, reached-more}
+use lib.ListN.{length, take}
+use Rattle.numbers.specs.Rows.{put}
+use Rattle.wire.specs.declared.Fault.{Fault}
+use Rattle.wire.specs.Reading.{Step, found, refused, accepted}
+use Rattle.frames.specs.Frames.{recordHead, recordOf, items}
+use Rattle.frames.proofs.Laws.{record-refused}
+use Rattle.frames.proofs.Loops.{Filled, filled-more, reached-accepted}
 use Rattle.rows.specs.Words.{clusterWidth, clusterWords}
 use Rattle.rows.specs.declared.ClusterRow.{ClusterRow}
-use Rattle.rows.proofs.TableLaws.{Holds, holds-none, holds-more}
 use Rattle.clusters.specs.Clusters.{entriesOf, cluster}
-use Rattle.clusters.proofs.ClusterLaws.{Summed, summed-none, summed-more}
+use Rattle.clusters.specs.Answers.{clusterAt}
+use Rattle.clusters.proofs.PlaceLaws.{record-there}
 
--- i clusters of the n of a list have been read, with `sum` entries in all, and their rows stand in a table that held `old`
-pub record Stored (strict : Bool) (file list n : ℕ) (s : List ℕ) (start i at sum : ℕ) (old table : List ℕ) : Type 0 where
-  pub summed : Summed strict file list n s start i at sum
-  pub holds : Holds (λ _. clusterWords) (summed .reached .done) old table
+-- the rule of a cluster record, after those before it
+abbrev pub item : Bool → Bool → ℕ → List ClusterRow → List ℕ → ℕ → Step ClusterRow
+item carried strict file done = recordOf strict (cluster carried file (entriesOf done))
 
-module _ {strict : Bool} {file list n : ℕ} {s : List ℕ} {start : ℕ} {old : List ℕ} where
-  pub stored-none : Stored strict file list n s start 0 start 0 old old
-  unfolding summed-none reached-none
-  stored-none = record { summed = summed-none; holds = holds-none }
+module _ (carried strict : Bool) (file : ℕ) {list n : ℕ} {s : List ℕ} {start i at : ℕ} {old table : List ℕ}
+    (m : Filled (λ _. clusterWords) list (item carried strict file) n s start i at old table)
+    (all : accepted (items list (item carried strict file) n [] s start) ≡ true) (h : i < n) where
+  -- a head that is refused
+  pub filled-never : {f : Fault} → recordHead s at ≡ refused f → ⊥
+  filled-never e = reached-accepted (m .reached) all h (sym (record-refused strict (cluster carried file (entriesOf (m .reached .done))) s at e))
 
-  module _ {i at sum : ℕ} {table : List ℕ} (m : Stored strict file list n s start i at sum old table) where
-    pub stored-more : {x : ClusterRow} {p : ℕ} {next : List ℕ} → i < n → recordOf strict (cluster file sum) s at ≡ found x p
-        → clusterWidth * i + clusterWidth ≤ length table → next ≡ put table (clusterWidth * i) (clusterWords x) → length next ≡ length table
-        → Stored strict file list n s start (i + 1) p (sum + x .entries) old next
-    unfolding summed-more reached-more
-    stored-more {x} h e fits put-there kept =
-        record { summed = summed-more (m .summed) h e; holds = holds-more x clusterWidth (λ _ _. refl) (m .holds) (m .summed .reached .count) fits put-there kept }
+  there : accepted (item carried strict file (m .reached .done) s at) ≡ true
+  there = by (item carried strict file (m .reached .done) s at) refl
+    where
+      by : (x : Step ClusterRow) → item carried strict file (m .reached .done) s at ≡ x → accepted x ≡ true
+      by (found x p) e = refl
+      by (refused f) e = absurd (reached-accepted (m .reached) all h e)
 
-    pub stored-all : n ≤ i → table ≡ over (flat clusterWords (rowsOf (items list (λ done. recordOf strict (cluster file (entriesOf done))) n [] s start))) old
-    stored-all h = filled-all (record { reached = m .summed .reached; holds = m .holds }) h
+  -- one whose content is read in the bytes up to its end
+  pub filled-next : {from stop : ℕ} {inner next : List ℕ} {row : ClusterRow} → recordHead s at ≡ found from stop → inner ≡ take stop s → row ≡ clusterAt carried inner from
+      → clusterWidth * i + clusterWidth ≤ length table → next ≡ put table (clusterWidth * i) (clusterWords row) → length next ≡ length table
+      → Filled (λ _. clusterWords) list (item carried strict file) n s start (i + 1) stop old next
+  filled-next {from} {stop} {inner} {next} {row} head cut is =
+      let same : clusterAt carried (take stop s) from ≡ row = sym (is ∙ ap (λ (t : List ℕ). clusterAt carried t from) cut) in
+      filled-more m clusterWidth (λ _ _. refl) h (record-there carried strict file (entriesOf (m .reached .done)) s at head there ∙ ap (λ (r : ClusterRow). found r stop) same)

@@ -15,10 +15,10 @@ use Rattle.wire.specs.Reading.{found, refused, rowsOf}
 use Rattle.header.specs.Header.{Header}
 use Rattle.header.specs.Tables.{headerOf}
 use Rattle.header.specs.Beside.{Beside, refusal, inEnvelope}
-use Rattle.footer.specs.Footer.{Footer, payload, footerOf}
+use Rattle.footer.specs.Footer.{Footer, thisBuild, carries, payload, footerByBuild}
 use Rattle.links.specs.Links.{linkList}
 use Rattle.clusters.specs.Clusters.{clusterList}
-use Rattle.footer.specs.Tables.{fitting, roomFor, answer, written, footerBeside, Answered}
+use Rattle.footer.specs.Tables.{fitting, roomFor, answer, written, besideByBuild, footerBeside, Answered}
 use Rattle.rows.specs.Words.{clusterWidth, clusterWords, linkWidth, linkWords}
 use Rattle.footer.specs.Answers.{Scanned, scannedFooter}
 use Rattle.footer.specs.declared.FooterAnswer.{FooterAnswer}
@@ -30,12 +30,12 @@ unfolding answer written
 answered-refused C M e = record { answers = rw e; reports = rw e; clustersAre = rw e; metadataAre = rw e }
 
 -- a payload that a scan accepted, and lent tables C and M
-module _ {checksum file : ℕ} {strict : Bool} {s : List ℕ} {scan : FooterScan} (k : Scanned checksum file strict s scan) (C M : List ℕ) where
-  room-is : roomFor (length C) (length M) (scannedFooter strict file s scan) ≡ fitting (length C) (length M) (scan .clusters) (scan .metadata)
+module _ {checksum file : ℕ} {carried strict : Bool} {s : List ℕ} {scan : FooterScan} (k : Scanned checksum file carried strict s scan) (C M : List ℕ) where
+  room-is : roomFor (length C) (length M) (scannedFooter carried strict file s scan) ≡ fitting (length C) (length M) (scan .clusters) (scan .metadata)
   room-is = rw (k .clustersCounted, k .metadataCounted)
 
   pub no-room : fitting (length C) (length M) (scan .clusters) (scan .metadata) ≡ false
-      → Answered (inEnvelope 2 (whole strict (payload checksum file strict) s 4)) C C M M (Refused 2 20)
+      → Answered (inEnvelope 2 (whole strict (payload carried checksum file strict) s 4)) C C M M (Refused 2 20)
   unfolding answer written
   no-room r =
       let z = room-is ∙ r in
@@ -45,16 +45,16 @@ module _ {checksum file : ℕ} {strict : Bool} {s : List ℕ} {scan : FooterScan
     rooms : (leb (scan .clusters) (length C / clusterWidth) ≡ true) × (leb (scan .metadata) (length M / linkWidth) ≡ true)
     rooms = both-true (leb (scan .clusters) (length C / clusterWidth)) (leb (scan .metadata) (length M / linkWidth)) r
 
-    pub clusters-fit : clusterWidth * length (rowsOf (clusterList strict file s (scan .«clusters_at»))) ≤ length C
+    pub clusters-fit : clusterWidth * length (rowsOf (clusterList carried strict file s (scan .«clusters_at»))) ≤ length C
     clusters-fit = let a = leb-true (scan .clusters) (length C / clusterWidth) (rooms .0) in let n = k .clustersCounted in omega arith
 
     pub metadata-fit : linkWidth * length (rowsOf (linkList strict file s (scan .«metadata_at»))) ≤ length M
     metadata-fit = let a = leb-true (scan .metadata) (length M / linkWidth) (rooms .1) in let n = k .metadataCounted in omega arith
 
     pub all-read : {C′ M′ : List ℕ}
-        → C′ ≡ over (flat clusterWords (rowsOf (clusterList strict file s (scan .«clusters_at»)))) C
+        → C′ ≡ over (flat clusterWords (rowsOf (clusterList carried strict file s (scan .«clusters_at»)))) C
         → M′ ≡ over (flat linkWords (rowsOf (linkList strict file s (scan .«metadata_at»)))) M
-        → Answered (inEnvelope 2 (whole strict (payload checksum file strict) s 4)) C C′ M M′ (Accepted (scan .clusters) (scan .metadata))
+        → Answered (inEnvelope 2 (whole strict (payload carried checksum file strict) s 4)) C C′ M M′ (Accepted (scan .clusters) (scan .metadata))
     unfolding answer written
     all-read x y =
         let z = room-is ∙ r in
@@ -68,16 +68,17 @@ module _ {checksum file : ℕ} {strict : Bool} {s : List ℕ} {scan : FooterScan
 -- a footer beside its header
 
 pub header-first : (header footer : List ℕ) (file : ℕ) {g : Fault} → headerOf header ≡ refused g → footerBeside header footer file ≡ refusal 1 g
-unfolding footerBeside
+unfolding besideByBuild
 header-first header footer file w = rw w
 
 module _ (header footer : List ℕ) (file : ℕ) {h : Header} {p : ℕ} (w : headerOf header ≡ found h p) where
-  pub not-opened : {f : Fault} → opened 1 footer ≡ refused f → footerBeside header footer file ≡ refusal 2 f
-  unfolding footerBeside footerOf versioned
+  pub not-opened : {f : Fault} → opened thisBuild footer ≡ refused f → footerBeside header footer file ≡ refusal 2 f
+  unfolding besideByBuild footerByBuild versioned
   not-opened o = rw (w, o)
 
   -- what is left of the payload's reading, by the header's checksum, is left of the footer's
-  pub footer-read : {v : Versions} {stop sum : ℕ} {s C C′ M M′ : List ℕ} {r : FooterAnswer} → opened 1 footer ≡ found v stop → sum ≡ checksumOf header → s ≡ take stop footer
-      → Answered (inEnvelope 2 (whole (v .strict) (payload sum file (v .strict)) s 4)) C C′ M M′ r → Answered (footerBeside header footer file) C C′ M M′ r
-  unfolding footerBeside footerOf versioned
-  footer-read o e u k = rw (w, o) (rw (e, u) at k)
+  pub footer-read : {v : Versions} {stop sum : ℕ} {carried : Bool} {s C C′ M M′ : List ℕ} {r : FooterAnswer} → opened thisBuild footer ≡ found v stop → sum ≡ checksumOf header → s ≡ take stop footer
+      → carried ≡ carries thisBuild (v .version) → Answered (inEnvelope 2 (whole (v .strict) (payload carried sum file (v .strict)) s 4)) C C′ M M′ r
+      → Answered (footerBeside header footer file) C C′ M M′ r
+  unfolding besideByBuild footerByBuild versioned
+  footer-read o e u d k = rw (w, o) (rw (e, u, d) at k)

@@ -3,10 +3,11 @@ use Prim.Native.Nat.{ℕ}
 use mathlib.Core.List.{List}
 use mathlib.Core.Bool.{Bool}
 use lib.ListN.{length}
-use lib.Dec.{eqb}
+use lib.Dec.{leb, eqb}
+use Rattle.numbers.specs.Choice.{both}
 use Rattle.wire.specs.Reading.{Step, Rule, _>>=_, _>>_, give, tested, unless}
 use Rattle.frames.specs.Frames.{listOf}
-use Rattle.envelope.specs.Envelope.{envelope}
+use Rattle.envelope.specs.Envelope.{versioned}
 use Rattle.envelope.specs.Features.{features}
 use Rattle.rows.specs.declared.Link.{Link}
 use Rattle.rows.specs.declared.ClusterRow.{ClusterRow}
@@ -17,6 +18,22 @@ use Rattle.clusters.specs.Clusters.{clusterList}
 pub record Footer : Type 0 where
   pub clusters : List ClusterRow
   pub metadata : List Link
+
+-- the newest version of footers that a build knows: this one, and the first, whose footers carried no checksums of page lists
+
+abbrev pub thisBuild : ℕ
+thisBuild = 2
+
+abbrev pub firstBuild : ℕ
+firstBuild = 1
+
+-- the first version whose footers carry the checksums of their page lists
+abbrev pub checksumsSince : ℕ
+checksumsSince = 2
+
+-- a build that knows versions up to `newest` finds them in a footer of this version
+abbrev pub carries : ℕ → ℕ → Bool
+carries newest version = both (leb checksumsSince newest) (leb checksumsSince version)
 
 -- a verdict on the header checksum that a footer names
 abbrev pub names : ℕ → ℕ → ℕ
@@ -43,13 +60,18 @@ afterOpening checksum strict rest s = (do
 abbrev pub opening : ℕ → Bool → Rule (Unit {0})
 opening checksum strict = afterOpening checksum strict (give tt)
 
--- the payload of a footer whose header has this checksum, in a file of `file` bytes
-unfoldable pub payload : ℕ → ℕ → Bool → Rule Footer
-payload checksum file strict = afterOpening checksum strict (do
-  clusters ← clusterList strict file
+-- the payload of a footer whose header has this checksum, in a file of `file` bytes; `carried`: with the checksums of page lists
+unfoldable pub payload : Bool → ℕ → ℕ → Bool → Rule Footer
+payload carried checksum file strict = afterOpening checksum strict (do
+  clusters ← clusterList carried strict file
   metadata ← linkList strict file
   give (record { clusters = clusters; metadata = metadata }))
 
--- the footer that an envelope is beside a header with this checksum, or its refusal; room is not asked for here
-unfoldable pub footerOf : ℕ → ℕ → List ℕ → Step Footer
-footerOf checksum file e = envelope 1 (payload checksum file) e
+-- the footer that an envelope is beside a header with this checksum, or its refusal, for a build that knows versions up to `newest` and reads
+-- minimum versions up to that one; room is not asked for here
+unfoldable pub footerByBuild : ℕ → ℕ → ℕ → List ℕ → Step Footer
+footerByBuild newest checksum file = versioned newest (λ v. payload (carries newest (v .version)) checksum file (v .strict))
+
+-- and for this build
+abbrev pub footerOf : ℕ → ℕ → List ℕ → Step Footer
+footerOf = footerByBuild thisBuild

@@ -12,13 +12,17 @@ use Rattle.numbers.specs.Rows.{flat, over}
 use Rattle.rows.specs.Words.{clusterWidth, linkWidth, clusterWords, linkWords}
 use Rattle.header.specs.Tables.{headerOf}
 use Rattle.header.specs.Beside.{Beside, read, refusal, beside}
-use Rattle.footer.specs.Footer.{Footer, footerOf}
+use Rattle.footer.specs.Footer.{Footer, thisBuild, footerByBuild}
 use Rattle.footer.specs.declared.FooterAnswer.{FooterAnswer}
 use Rattle.footer.specs.declared.FooterAnswer.the-variants.{Accepted, Refused}
 
--- the footer read beside its header: the header's refusal first
-unfoldable pub footerBeside : List ℕ → List ℕ → ℕ → Beside Footer
-footerBeside header footer file = beside 2 (λ _. footerOf (checksumOf header) file footer) (headerOf header)
+-- the footer read beside its header, by a build that knows versions up to `newest`: the header's refusal first
+unfoldable pub besideByBuild : ℕ → List ℕ → List ℕ → ℕ → Beside Footer
+besideByBuild newest header footer file = beside 2 (λ _. footerByBuild newest (checksumOf header) file footer) (headerOf header)
+
+-- and by this build
+abbrev pub footerBeside : List ℕ → List ℕ → ℕ → Beside Footer
+footerBeside = besideByBuild thisBuild
 
 -- the words of each table
 

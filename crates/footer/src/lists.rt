@@ -27,12 +27,13 @@ pub enum ScanStep {
 }
 
 // The verdict on a payload.
-fn scan_payload(s: &[u8], strict: bool, checksum: u64, file: u64) -> ScanStep
-    ensures { λ r. ⌜ Scans checksum file strict (now (s .entry)) r ⌝ }
+fn scan_payload(s: &[u8], carried: bool, strict: bool, checksum: u64, file: u64) -> ScanStep
+    ensures { λ r. ⌜ Scans checksum file carried strict (now (s .entry)) r ⌝ }
 {
     match opening_at(s, strict, 4, checksum) {
         PlaceStep::Found(clusters_at) => match clusters::scan_cluster_list(
             s,
+            carried,
             strict,
             clusters_at,
             file,
@@ -69,21 +70,22 @@ fn has_room(scan: FooterScan, clusters: usize, metadata: usize) -> bool
     false
 }
 
-// Reads a payload into the lent tables, and answers.
+// Reads a payload into the lent tables, and answers; `carried`: with the checksums of page lists.
 pub fn read_payload(
     s: &[u8],
+    carried: bool,
     strict: bool,
     checksum: u64,
     file: u64,
     clusters: &mut [u64],
     metadata: &mut [u64],
 ) -> FooterAnswer
-    ensures { λ r. ⌜ Answered (inEnvelope 2 (whole strict (payload checksum file strict) (now (s .entry)) 4)) (now (clusters .entry)) (now (clusters .exit)) (now (metadata .entry)) (now (metadata .exit)) r ⌝ }
+    ensures { λ r. ⌜ Answered (inEnvelope 2 (whole strict (payload carried checksum file strict) (now (s .entry)) 4)) (now (clusters .entry)) (now (clusters .exit)) (now (metadata .entry)) (now (metadata .exit)) r ⌝ }
 {
-    match scan_payload(s, strict, checksum, file) {
+    match scan_payload(s, carried, strict, checksum, file) {
         ScanStep::Found(scan) => {
             if has_room(scan, clusters.len(), metadata.len()) {
-                fill_cluster_list(clusters, s, strict, scan.clusters_at, file);
+                fill_cluster_list(clusters, s, carried, strict, scan.clusters_at, file);
                 fill_link_list(metadata, s, strict, scan.metadata_at, file);
                 FooterAnswer::Accepted {
                     clusters: scan.clusters,

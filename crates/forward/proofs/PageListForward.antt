@@ -27,7 +27,7 @@ use Rattle.forward.specs.Extension.{GrownList, GrownFrame}
 use Rattle.forward.specs.ReadersForward.{ChosenPageList, ThePageList, PageListForward}
 use Rattle.forward.proofs.Extending.{grown-each, grown-right}
 use Rattle.forward.proofs.HeaderForward.{the-header, still-read}
-use Rattle.tree.proofs.Besides.{both-read-is}
+use Rattle.header.proofs.Besides.{both-read-is}
 use Rattle.tree.proofs.Accepted.{pages-read, totals-by}
 
 grown-page-list : (old new : PageListPayload) → GrownList GrownFrame old new → pageListCarrier .content old ≡ pageListCarrier .content new

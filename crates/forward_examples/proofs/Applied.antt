@@ -1,24 +1,24 @@
--- Demand 3 applied to calls for the examples, in all four parts: its hypotheses can be met, and the calls that it speaks of are there.
+-- Demand 3 applied to calls for the examples, in all its parts: its hypotheses can be met, and the calls that it speaks of are there.
 use Prim.Native.Nat.{ℕ}
 use mathlib.Core.List.{List, [], _∷_, _++_}
-use mathlib.Core.Bool.{true}
 use mathlib.Core.Path.{_≡_, refl, sym, subst}
 use native.Mathlib.Omega.{arith}
-use lib.Dec.{eqb}
-use borrow.Author.Tests.{eq-eqb}
 use lib.ListN.{replicate}
+use Rattle.numbers.specs.Choice.{pick}
 use Rattle.numbers.specs.Numbers.{little}
 use Rattle.numbers.specs.Rows.{flat, flatBy}
 use Rattle.checksum.specs.Crc.{shifted, bits, byte, fold, crc32}
 use Rattle.utf8.specs.WellFormed.{due, goesOn, wellFormed}
 use Rattle.envelope.specs.Envelope.{checksumOf}
 use Rattle.column_type.specs.Types.{known, widthOf, widths}
-use Rattle.rows.specs.Words.{fieldWords, columnWords, aliasWords}
+use Rattle.rows.specs.declared.PageRow.{PageRow}
+use Rattle.rows.specs.Words.{noChecksum, fieldWords, columnWords, aliasWords}
 use Rattle.parents.specs.Parents.{meets, allReach}
 use Rattle.parents.specs.Dark.{dark}
 use Rattle.header.specs.Tables.{headerOf, answer, written, Answered}
 use Rattle.header.specs.declared.HeaderTables.{HeaderTables}
 use Rattle.header.specs.declared.HeaderAnswer.the-variants.{Accepted}
+use Rattle.header.specs.Beside.{Beside}
 use Rattle.footer.specs.Tables.{footerBeside, answer as footer-answer, written as footer-written, Answered as AnsweredFooter}
 use Rattle.footer.specs.declared.FooterAnswer.{FooterAnswer}
 use Rattle.footer.specs.declared.FooterAnswer.the-variants.{Accepted as AcceptedFooter}
@@ -26,18 +26,20 @@ use Rattle.column_pages.specs.ColumnPages.{bitsOf, pagesOf}
 use Rattle.page_list.specs.Tables.{pageListBeside, answer as pages-answer, written as pages-written, Answered as AnsweredPages}
 use Rattle.page_list.specs.declared.PageListAnswer.{PageListAnswer}
 use Rattle.page_list.specs.declared.PageListAnswer.the-variants.{Accepted as AcceptedPages}
+use Rattle.pairing.specs.Paired.{pairedBeside}
+use Rattle.pairing.proofs.Pairs.{pairs}
 use Rattle.tree.specs.Bytes.{spelled, Bytes}
 use Rattle.tree.specs.EnvelopeTree.{unsummed, sealed}
 use Rattle.tree.specs.HeaderTree.{featureWords, textsShape, listsShape, payloadShape, headShape, stringsShape, fieldShape, columnShape, aliasShape, HeaderTree, renderHeader, tablesOf, RightHeader}
 use Rattle.tree.specs.FooterTree.{footerShape, clusterShape, linkShape, FooterTree, renderFooter, RightFooter}
 use Rattle.tree.specs.PageListTree.{pageListShape, pagesShape, pageShape, PageListTree, renderPageList, RightPageList}
 use Rattle.tree.proofs.Place.{bytes-tested}
-use Rattle.tree.proofs.Envelope.{checksum-bound}
-use Rattle.forward_examples.specs.Example.{textsAt, plainHeader, newerHeader, appendedFields, appendedColumns, appendedHeader, plainFooter, newerFooter, plainPageList, newerPageList, plainRead}
+use Rattle.forward_examples.specs.Example.{textsAt, plainHeader, newerHeader, appendedFields, appendedColumns, appendedHeader, listChecksum, plainFooter, newerFooter, plainPageList, newerPageList, plainRead}
 use Rattle.forward.specs.SameTables.{SameAnswer}
-use Rattle.forward.specs.HeaderForward.{HeaderKept, ChosenHeader}
+use Rattle.forward.specs.HeaderForward.{HeaderKept, TheHeader, ChosenHeader}
 use Rattle.forward.specs.HeaderAppend.{KeepsRows, Appends, AppendKept}
-use Rattle.forward.specs.ReadersForward.{FooterKept, ChosenFooter, PageListKept, ChosenPageList}
+use Rattle.forward.specs.ReadersForward.{raised, withChecksums, FooterKept, ChosenFooter, ThePageList, PageListKept, ChosenPageList}
+use Rattle.forward.specs.PairingForward.{putRight, PairingKept}
 use Rattle.forward.proofs.Demand3.{demand-3}
 use Rattle.forward_examples.proofs.Extensible.{extensible, appendable}
 
@@ -88,14 +90,12 @@ plain-right =
 plain-footer-right : RightFooter (checksumOf (renderHeader plainHeader)) 140 plainFooter
 unfolding footerShape clusterShape linkShape
 plain-footer-right =
-    let c = checksumOf (renderHeader plainHeader) in
-    let same : eqb c c ≡ true = eq-eqb c c refl in
     record {
       versionFits = omega arith;
       least = omega arith;
       order = omega arith;
       read = omega arith;
-      valid = (tt, ((checksum-bound (unsummed (λ _. payloadShape) plainHeader), rw same refl), ((omega arith, refl, tt), ((omega arith, refl, tt), ((omega arith, refl, (((omega arith, refl), ((omega arith, refl), (((omega arith, refl), ((omega arith, refl), ((omega arith, refl), tt))), tt))), tt)), ((omega arith, refl, (((omega arith, refl), ((omega arith, refl), ((omega arith, refl), tt))), tt)), tt))))));
+      valid = (tt, ((omega arith, rw (extensible .headerSum) refl), ((omega arith, refl, tt), ((omega arith, refl, tt), ((omega arith, refl, (((omega arith, refl), ((omega arith, refl), (((omega arith, refl), ((omega arith, refl), ((omega arith, refl), tt))), (refl, tt)))), tt)), ((omega arith, refl, (((omega arith, refl), ((omega arith, refl), ((omega arith, refl), tt))), tt)), tt))))));
       plain = λ _. ((tt, (tt, ((tt, refl), ((tt, refl), ((((tt, refl), tt), refl), (((tt, tt), refl), tt)))))), refl);
     }
 
@@ -118,7 +118,7 @@ unfolding sealed unsummed payloadShape textsShape listsShape featureWords spelle
 plain-bytes = bytes-tested (renderHeader plainHeader) refl
 
 plain-footer-bytes : Bytes (renderFooter plainFooter)
-unfolding sealed unsummed payloadShape textsShape listsShape featureWords spelled fieldShape headShape stringsShape columnShape aliasShape footerShape clusterShape linkShape little crc32 fold byte bits shifted
+unfolding sealed unsummed featureWords spelled footerShape clusterShape linkShape crc32 fold byte bits shifted
 plain-footer-bytes = bytes-tested (renderFooter plainFooter) refl
 
 plain-page-list-bytes : Bytes (renderPageList plainPageList)
@@ -176,6 +176,10 @@ pub appended-call : Answered (headerOf (renderHeader appendedHeader)) (replicate
 unfolding answer written fieldWords columnWords aliasWords flat flatBy dark known meets
 appended-call = rw (appendable .appendedReads) (record { answers = refl; reports = refl; reportsTexts = refl; fieldsAre = refl; columnsAre = refl; aliasesAre = refl })
 
+-- the header that these calls speak of is the example, which may be extended
+chosen-header : (h : TheHeader (renderHeader plainHeader)) → ChosenHeader (h .tree) newerHeader
+chosen-header h = subst (λ (t : HeaderTree). ChosenHeader t newerHeader) (h .only plainHeader plain-right refl) (extensible .header)
+
 -- added bytes: the newer header's call leaves tables that say the same
 
 header-kept : HeaderKept (renderHeader plainHeader) lent-fields (left-fields 67) lent-columns left-columns lent-aliases left-aliases (counted 2 2)
@@ -183,8 +187,7 @@ header-kept = demand-3 .header (renderHeader plainHeader) lent-fields (left-fiel
 
 pub newer-kept : SameAnswer (renderHeader plainHeader) (left-fields 67) left-columns left-aliases (counted 2 2) (renderHeader newerHeader) (left-fields 69) left-columns left-aliases (Accepted (counted 2 2))
 newer-kept =
-    let tree = header-kept .header .only plainHeader plain-right refl in
-    header-kept .forward newerHeader (subst (λ (t : HeaderTree). ChosenHeader t newerHeader) tree (extensible .header)) (omega (arith, extensible .newerHeaderBytes)) (left-fields 69) left-columns left-aliases (Accepted (counted 2 2)) newer-call
+    header-kept .forward newerHeader (chosen-header (header-kept .header)) (omega (arith, extensible .newerHeaderBytes)) (left-fields 69) left-columns left-aliases (Accepted (counted 2 2)) newer-call
 
 -- an appended field with its column: the call keeps the earlier rows
 
@@ -197,13 +200,14 @@ appended-kept =
     let appends = subst (λ (t : HeaderTree). Appends (renderHeader plainHeader) (left-fields 67) left-columns left-aliases (counted 2 2) t) (sym tree) (append-kept .append) in
     appends appendedFields appendedColumns (appendable .appendix) (replicate 47 5) _ (replicate 12 5) _ (replicate 2 5) _ (Accepted (counted 3 3)) (omega arith) (omega arith) (omega arith) appended-call
 
--- footers: there is a call for the newer header and the newer footer, and each gives the same answer and leaves the same tables
+-- footers: there is a call for the newer header and the newer footer, and each gives the same answer and leaves the same tables, but for the checksum
+-- that the footer got
 
 abbrev lent-clusters : List ℕ
-lent-clusters = replicate 5 9
+lent-clusters = replicate 6 9
 
-abbrev left-clusters : List ℕ
-left-clusters = 0 ∷ 3 ∷ 40 ∷ 100 ∷ 9 ∷ []
+abbrev left-clusters : ℕ → List ℕ
+left-clusters checksum = 0 ∷ 3 ∷ 40 ∷ 100 ∷ checksum ∷ 9 ∷ []
 
 abbrev lent-links : List ℕ
 lent-links = replicate 3 9
@@ -211,24 +215,27 @@ lent-links = replicate 3 9
 abbrev left-links : List ℕ
 left-links = 7 ∷ 0 ∷ 9 ∷ []
 
-plain-footer-call : AnsweredFooter (footerBeside (renderHeader plainHeader) (renderFooter plainFooter) 140) lent-clusters left-clusters lent-links left-links (AcceptedFooter 1 1)
+plain-footer-call : AnsweredFooter (footerBeside (renderHeader plainHeader) (renderFooter plainFooter) 140) lent-clusters (left-clusters noChecksum) lent-links left-links (AcceptedFooter 1 1)
 unfolding footer-answer footer-written flat
 plain-footer-call = rw (extensible .footerReads) (record { answers = refl; reports = refl; clustersAre = refl; metadataAre = refl })
 
-pub newer-footer-call : AnsweredFooter (footerBeside (renderHeader newerHeader) (renderFooter newerFooter) 140) lent-clusters left-clusters lent-links left-links (AcceptedFooter 1 1)
+pub newer-footer-call : AnsweredFooter (footerBeside (renderHeader newerHeader) (renderFooter newerFooter) 140) lent-clusters (left-clusters listChecksum) lent-links left-links (AcceptedFooter 1 1)
 unfolding footer-answer footer-written flat
 newer-footer-call = rw (extensible .newerFooterReads) (record { answers = refl; reports = refl; clustersAre = refl; metadataAre = refl })
 
-footer-kept : FooterKept (renderHeader plainHeader) (renderFooter plainFooter) 140 lent-clusters left-clusters lent-links left-links (AcceptedFooter 1 1)
+footer-kept : FooterKept (renderHeader plainHeader) (renderFooter plainFooter) 140 lent-clusters (left-clusters noChecksum) lent-links left-links (AcceptedFooter 1 1)
 footer-kept =
-    demand-3 .footer (renderHeader plainHeader) (renderFooter plainFooter) 140 lent-clusters left-clusters lent-links left-links 1 1 plain-bytes plain-footer-bytes plain-footer-call
+    demand-3 .footer (renderHeader plainHeader) (renderFooter plainFooter) 140 lent-clusters (left-clusters noChecksum) lent-links left-links 1 1 plain-bytes plain-footer-bytes plain-footer-call
 
 pub newer-footer-kept : (c m : List ℕ) (r : FooterAnswer) → AnsweredFooter (footerBeside (renderHeader newerHeader) (renderFooter newerFooter) 140) lent-clusters c lent-links m r
-    → (r ≡ AcceptedFooter 1 1) × (c ≡ left-clusters) × (m ≡ left-links)
-newer-footer-kept =
-    let tree = footer-kept .header .only plainHeader plain-right refl in
-    let tree′ = footer-kept .footer .only plainFooter plain-footer-right refl in
-    footer-kept .forward newerHeader newerFooter (subst (λ (t : HeaderTree). ChosenHeader t newerHeader) tree (extensible .header)) (subst (λ (u : FooterTree). ChosenFooter (checksumOf (renderHeader newerHeader)) u newerFooter) tree′ (extensible .footer)) (omega (arith, extensible .newerHeaderBytes)) (omega (arith, extensible .newerFooterBytes))
+    → (r ≡ AcceptedFooter 1 1) × (c ≡ left-clusters listChecksum) × (m ≡ left-links)
+unfolding withChecksums
+newer-footer-kept c m r call =
+    let tree = footer-kept .footer .only plainFooter plain-footer-right refl in
+    let chosen = subst (λ (u : FooterTree). ChosenFooter (checksumOf (renderHeader newerHeader)) u newerFooter) tree (extensible .footer) in
+    let (answers, clusters, links) = footer-kept .forward newerHeader newerFooter (chosen-header (footer-kept .header)) chosen (omega (arith, extensible .newerHeaderBytes)) (omega (arith, extensible .newerFooterBytes)) c m r call in
+    let old = left-clusters noChecksum in
+    (answers, subst (λ (u : FooterTree). c ≡ pick (raised (u .version) 2) (withChecksums (listChecksum ∷ []) old) old) (sym tree) clusters, links)
 
 -- page lists: the same
 
@@ -250,10 +257,37 @@ page-list-kept : PageListKept (renderHeader plainHeader) (renderPageList plainPa
 page-list-kept =
     demand-3 .pageList (renderHeader plainHeader) (renderPageList plainPageList) 3 80 lent-pages left-pages 2 plain-bytes plain-page-list-bytes plain-page-list-call
 
+-- the page list that these calls speak of is the example, which may be extended
+chosen-list : (h : TheHeader (renderHeader plainHeader)) (l : ThePageList 80 (bitsOf (tablesOf (h .tree) .columns)) (renderPageList plainPageList)) → ChosenPageList (l .tree) newerPageList
+chosen-list h l =
+    let right = subst (λ (t : HeaderTree). RightPageList 80 (bitsOf (tablesOf t .columns)) plainPageList) (h .only plainHeader plain-right refl) plain-page-list-right in
+    subst (λ (u : PageListTree). ChosenPageList u newerPageList) (l .only plainPageList right refl) (extensible .pageList)
+
 pub newer-page-list-kept : (p : List ℕ) (r : PageListAnswer) → AnsweredPages (pageListBeside (renderHeader newerHeader) (renderPageList newerPageList) 3 80) lent-pages p r
     → (r ≡ AcceptedPages 2) × (p ≡ left-pages)
 newer-page-list-kept =
-    let tree = page-list-kept .header .only plainHeader plain-right refl in
-    let right = subst (λ (t : HeaderTree). RightPageList 80 (bitsOf (tablesOf t .columns)) plainPageList) tree plain-page-list-right in
-    let tree′ = page-list-kept .pageList .only plainPageList right refl in
-    page-list-kept .forward newerHeader newerPageList (subst (λ (t : HeaderTree). ChosenHeader t newerHeader) tree (extensible .header)) (subst (λ (u : PageListTree). ChosenPageList u newerPageList) tree′ (extensible .pageList)) (omega (arith, extensible .newerHeaderBytes)) (omega (arith, extensible .newerPageListBytes))
+    page-list-kept .forward newerHeader newerPageList (chosen-header (page-list-kept .header)) (chosen-list (page-list-kept .header) (page-list-kept .pageList)) (omega (arith, extensible .newerHeaderBytes)) (omega (arith, extensible .newerPageListBytes))
+
+-- for a row: it has the checksum of the plain page list, and its copy is put right for the newer one
+
+abbrev plain-checksum : ℕ
+plain-checksum = checksumOf (renderPageList plainPageList)
+
+plain-pairing-call : AnsweredPages (pairedBeside (renderHeader plainHeader) (renderPageList plainPageList) 3 plain-checksum 80) lent-pages left-pages (AcceptedPages 2)
+plain-pairing-call =
+    let same = pairs .its (renderHeader plainHeader) (renderPageList plainPageList) 3 80 in
+    subst (λ (x : Beside (List (List PageRow))). AnsweredPages x lent-pages left-pages (AcceptedPages 2)) (sym same) plain-page-list-call
+
+pairing-kept : PairingKept (renderHeader plainHeader) (renderPageList plainPageList) 3 plain-checksum 80 lent-pages left-pages (AcceptedPages 2)
+pairing-kept =
+    demand-3 .pairing (renderHeader plainHeader) (renderPageList plainPageList) 3 plain-checksum 80 lent-pages left-pages 2 plain-bytes plain-page-list-bytes plain-pairing-call
+
+put-right : putRight plain-checksum (renderPageList newerPageList) ≡ listChecksum
+unfolding little sealed unsummed pageListShape pagesShape pageShape spelled crc32 fold byte bits shifted
+put-right = refl
+
+pub newer-pairing-kept : (p : List ℕ) (r : PageListAnswer) → AnsweredPages (pairedBeside (renderHeader newerHeader) (renderPageList newerPageList) 3 listChecksum 80) lent-pages p r
+    → (r ≡ AcceptedPages 2) × (p ≡ left-pages)
+newer-pairing-kept p r call =
+    let copied = subst (λ (n : ℕ). AnsweredPages (pairedBeside (renderHeader newerHeader) (renderPageList newerPageList) 3 n 80) lent-pages p r) (sym put-right) call in
+    pairing-kept .forward newerHeader newerPageList (chosen-header (pairing-kept .header)) (chosen-list (pairing-kept .header) (pairing-kept .pageList)) (omega (arith, extensible .newerHeaderBytes)) (omega (arith, extensible .newerPageListBytes)) p r copied

@@ -1,4 +1,5 @@
 pub mod Samples
 pub mod Vectors
 pub mod Extensible
+pub mod Raised
 pub mod Applied

@@ -19,8 +19,9 @@ use Rattle.records.specs.Records.{repetition, fieldHead, fieldTexts, field, col
 use Rattle.parents.specs.Parents.{meets, allReach}
 use Rattle.header.specs.Tables.{headerOf, chained}
 use Rattle.links.specs.Links.{link}
-use Rattle.clusters.specs.Clusters.{cluster, entriesOf}
-use Rattle.footer.specs.Footer.{footerOf, payload as footer-payload}
+use Rattle.clusters.specs.Clusters.{listChecksum, cluster, entriesOf}
+use Rattle.rows.specs.Words.{noChecksum}
+use Rattle.footer.specs.Footer.{footerByBuild, footerOf, payload as footer-payload}
 use Rattle.page_list.specs.PageList.{pageListOf, summed}
 use Rattle.pages.specs.Pages.{pages, page, elementsOf}
 use Rattle.totals.specs.Totals.{totals, totalOf}
@@ -101,7 +102,7 @@ smallest-footer =
     69 ∷ []
 
 pub smallest-footer-read : footerOf (checksumOf smallest-header) 0 smallest-footer ≡ found (record { clusters = []; metadata = [] }) 48
-unfolding versioned opened recordOf listOf items number judged stringOf wellFormed goesOn due frameSize recordHead listStop countJudged little crc32 fold byte bits shifted features footerOf footer-payload link cluster entriesOf
+unfolding versioned opened recordOf listOf items number judged stringOf wellFormed goesOn due frameSize recordHead listStop countJudged little crc32 fold byte bits shifted features footerByBuild footer-payload link listChecksum cluster entriesOf
 smallest-footer-read = refl
 
 abbrev pub cluster-footer : List ℕ
@@ -113,20 +114,20 @@ cluster-footer =
 
 -- the cluster's page list ends at the file's last byte
 pub cluster-footer-read : footerOf (checksumOf field-header) 140 cluster-footer ≡ found (record {
-  clusters = record { «first_entry» = 0; entries = 3; «page_list» = record { size = 40; offset = 100 } } ∷ [];
+  clusters = record { «first_entry» = 0; entries = 3; «page_list» = record { size = 40; offset = 100 }; checksum = noChecksum } ∷ [];
   metadata = record { size = 7; offset = 0 } ∷ [];
 }) 100
-unfolding versioned opened recordOf listOf items number judged stringOf wellFormed goesOn due frameSize recordHead listStop countJudged little crc32 fold byte bits shifted features footerOf footer-payload link cluster entriesOf
+unfolding versioned opened recordOf listOf items number judged stringOf wellFormed goesOn due frameSize recordHead listStop countJudged little crc32 fold byte bits shifted features footerByBuild footer-payload link listChecksum cluster entriesOf
 cluster-footer-read = refl
 
 -- one byte further than the file
 pub cluster-footer-outside : footerOf (checksumOf field-header) 139 cluster-footer ≡ refused (record { number = 18; place = 68; kind = Number; list = 32; item = 0 })
-unfolding inItem versioned opened recordOf listOf items number judged stringOf wellFormed goesOn due frameSize recordHead listStop countJudged little crc32 fold byte bits shifted features footerOf footer-payload link cluster entriesOf
+unfolding inItem versioned opened recordOf listOf items number judged stringOf wellFormed goesOn due frameSize recordHead listStop countJudged little crc32 fold byte bits shifted features footerByBuild footer-payload link listChecksum cluster entriesOf
 cluster-footer-outside = refl
 
 -- beside another header
 pub cluster-footer-stale : footerOf (checksumOf smallest-header) 140 cluster-footer ≡ refused (record { number = 16; place = 12; kind = Number; list = 0; item = 0 })
-unfolding versioned opened recordOf listOf items number judged stringOf wellFormed goesOn due frameSize recordHead listStop countJudged little crc32 fold byte bits shifted features footerOf footer-payload link cluster entriesOf
+unfolding versioned opened recordOf listOf items number judged stringOf wellFormed goesOn due frameSize recordHead listStop countJudged little crc32 fold byte bits shifted features footerByBuild footer-payload link listChecksum cluster entriesOf
 cluster-footer-stale = refl
 
 abbrev footer-tree : FooterTree
@@ -140,7 +141,7 @@ footer-tree =
         extensions = record { inside = []; spare = [] };
         groups = record { inside = []; spare = [] };
         clusters = record {
-          inside = record { inside = record { first = 0; entries = 3; link = record { size = 40; stored = 40; offset = 100 } }; spare = [] } ∷ [];
+          inside = record { inside = record { first = 0; entries = 3; link = record { size = 40; stored = 40; offset = 100 }; checksum = noChecksum }; spare = [] } ∷ [];
           spare = [];
         };
         metadata = record { inside = record { size = 7; stored = 7; offset = 0 } ∷ []; spare = [] };

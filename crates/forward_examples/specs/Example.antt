@@ -1,12 +1,15 @@
 -- Demand 3 is about something: a header, a footer and a page list, and the same from a newer writer, which added bytes at the end of every frame and
--- of the payload; and the header with a field and a column appended. The checker computes what the rules read in each.
+-- of the payload, and to the footer the checksum of its page list; and the header with a field and a column appended. The checker computes what the
+-- rules read in each, and what the first build's rules read.
 use Prim.Native.Nat.{ℕ, _+_}
 use mathlib.Core.List.{List, [], _∷_, _++_, map}
 use mathlib.Core.Bool.{true, false}
 use mathlib.Core.Path.{_≡_}
 use lib.ListN.{length}
-use Rattle.wire.specs.Reading.{found}
+use Rattle.wire.specs.Reading.{found, fault}
+use Rattle.wire.specs.declared.Kind.the-variants.{Envelope, Number}
 use Rattle.envelope.specs.Envelope.{checksumOf}
+use Rattle.rows.specs.Words.{noChecksum}
 use Rattle.rows.specs.declared.FieldTexts.{FieldTexts}
 use Rattle.rows.specs.declared.FieldRow.{FieldRow}
 use Rattle.rows.specs.declared.ColumnRow.{ColumnRow}
@@ -14,13 +17,15 @@ use Rattle.rows.specs.declared.AliasRow.{AliasRow}
 use Rattle.rows.specs.declared.PageRow.{PageRow}
 use Rattle.header.specs.Header.{Header}
 use Rattle.header.specs.Tables.{headerOf}
-use Rattle.header.specs.Beside.{read}
-use Rattle.footer.specs.Footer.{Footer}
-use Rattle.footer.specs.Tables.{footerBeside}
+use Rattle.header.specs.Beside.{read, refusal}
+use Rattle.footer.specs.Footer.{Footer, firstBuild}
+use Rattle.footer.specs.Tables.{besideByBuild, footerBeside}
 use Rattle.page_list.specs.Tables.{pageListBeside}
+use Rattle.pairing.specs.Paired.{pairedBeside}
 use Rattle.tree.specs.Shape.{Framed}
+use Rattle.tree.specs.EnvelopeTree.{renderEnvelope}
 use Rattle.tree.specs.HeaderTree.{FieldContent, HeaderTree, renderHeader}
-use Rattle.tree.specs.FooterTree.{ClusterContent, LinkContent, FooterTree, renderFooter}
+use Rattle.tree.specs.FooterTree.{ClusterContent, LinkContent, footerShape, FooterTree, renderFooter}
 use Rattle.tree.specs.PageListTree.{PageContent, PageListTree, renderPageList}
 use Rattle.forward.specs.HeaderForward.{ChosenHeader}
 use Rattle.forward.specs.ReadersForward.{ChosenFooter, ChosenPageList}
@@ -95,14 +100,27 @@ appendedHeader = appended plainHeader appendedFields appendedColumns
 
 -- The footer: one cluster with three entries, one metadata link.
 
-abbrev pub exampleClusters : List ClusterContent
-exampleClusters = record { first = 0; entries = 3; link = record { size = 40; stored = 40; offset = 100 } } ∷ []
+-- the checksums of the two headers, and of the newer page list below
+
+abbrev pub plainChecksum : ℕ
+plainChecksum = 1832856367
+
+abbrev pub newerChecksum : ℕ
+newerChecksum = 1226907833
+
+abbrev pub listChecksum : ℕ
+listChecksum = 2750808053
+
+abbrev pub clusterWith : ℕ → ClusterContent
+clusterWith checksum = record { first = 0; entries = 3; link = record { size = 40; stored = 40; offset = 100 }; checksum = checksum }
 
 abbrev pub exampleLinks : List LinkContent
 exampleLinks = record { size = 7; stored = 7; offset = 0 } ∷ []
 
-abbrev pub exampleFooter : ℕ → ℕ → List ℕ → FooterTree
-exampleFooter version checksum spare =
+-- a footer of this version, beside a header with this checksum, with that of its page list, and with these spare bytes at the end of every frame and
+-- of the payload
+abbrev pub exampleFooter : ℕ → ℕ → ℕ → List ℕ → FooterTree
+exampleFooter version checksum ofList spare =
     record {
       version = version;
       minimum = 1;
@@ -111,17 +129,25 @@ exampleFooter version checksum spare =
         checksum = checksum;
         extensions = framedWith spare [];
         groups = framedWith spare [];
-        clusters = framesWith spare exampleClusters;
+        clusters = framesWith spare (clusterWith ofList ∷ []);
         metadata = framedWith spare exampleLinks;
       };
       spare = spare;
     }
 
 abbrev pub plainFooter : FooterTree
-plainFooter = exampleFooter 1 (checksumOf (renderHeader plainHeader)) []
+plainFooter = exampleFooter 1 plainChecksum noChecksum []
 
 abbrev pub newerFooter : FooterTree
-newerFooter = exampleFooter 2 (checksumOf (renderHeader newerHeader)) addedBytes
+newerFooter = exampleFooter 2 newerChecksum listChecksum addedBytes
+
+-- and by a writer that is newer still, with more bytes behind the checksum
+abbrev pub laterFooter : FooterTree
+laterFooter = exampleFooter 3 newerChecksum listChecksum (addedBytes ++ addedBytes)
+
+-- the plain footer's bytes, but for their version, which is 2: the checksum is missing
+abbrev pub uncheckedFooter : List ℕ
+uncheckedFooter = renderEnvelope (λ _. footerShape false 0 0) (exampleFooter 2 plainChecksum noChecksum [])
 
 -- The page list: three elements of the first column in one page, and of the second in one with a checksum.
 
@@ -186,10 +212,10 @@ newerRead = readAs (30 ∷ 69 ∷ []) exampleFields 110 exampleColumns 156
 abbrev pub appendedRead : Header
 appendedRead = readAs (30 ∷ 67 ∷ 104 ∷ []) (exampleFields ++ map (λ (f : Framed FieldContent). f .inside) appendedFields) 141 (exampleColumns ++ map (λ (c : Framed ColumnRow). c .inside) appendedColumns) 197
 
-abbrev pub footerRead : Footer
-footerRead =
+abbrev pub footerRead : ℕ → Footer
+footerRead checksum =
     record {
-      clusters = record { «first_entry» = 0; entries = 3; «page_list» = record { size = 40; offset = 100 } } ∷ [];
+      clusters = record { «first_entry» = 0; entries = 3; «page_list» = record { size = 40; offset = 100 }; checksum = checksum } ∷ [];
       metadata = record { size = 7; offset = 0 } ∷ [];
     }
 
@@ -198,23 +224,42 @@ pagesRead =
     (record { column = record { 0 = 0 }; elements = 3; checksum = false; size = 24; offset = 50 } ∷ [])
     ∷ (record { column = record { 0 = 1 }; elements = 3; checksum = true; size = 2; offset = 74 } ∷ []) ∷ []
 
--- each newer envelope is an extension, longer by two bytes for each frame and the payload; the rules accept all, and read the same
+-- each newer envelope is an extension, longer by two bytes for each frame and the payload, and a footer by the checksum; the rules accept all, and
+-- read the same, but for the checksum that the footer got
 pub record Extensible : Type 0 where
   pub header : ChosenHeader plainHeader newerHeader
   pub headerBytes : length (renderHeader plainHeader) ≡ 168
   pub newerHeaderBytes : length (renderHeader newerHeader) ≡ 186
   pub headerReads : headerOf (renderHeader plainHeader) ≡ found plainRead 164
   pub newerHeaderReads : headerOf (renderHeader newerHeader) ≡ found newerRead 182
+  pub headerSum : checksumOf (renderHeader plainHeader) ≡ plainChecksum
+  pub newerHeaderSum : checksumOf (renderHeader newerHeader) ≡ newerChecksum
   pub footer : ChosenFooter (checksumOf (renderHeader newerHeader)) plainFooter newerFooter
   pub footerBytes : length (renderFooter plainFooter) ≡ 104
-  pub newerFooterBytes : length (renderFooter newerFooter) ≡ 116
-  pub footerReads : footerBeside (renderHeader plainHeader) (renderFooter plainFooter) 140 ≡ read footerRead
-  pub newerFooterReads : footerBeside (renderHeader newerHeader) (renderFooter newerFooter) 140 ≡ read footerRead
+  pub newerFooterBytes : length (renderFooter newerFooter) ≡ 120
+  pub footerReads : footerBeside (renderHeader plainHeader) (renderFooter plainFooter) 140 ≡ read (footerRead noChecksum)
+  pub newerFooterReads : footerBeside (renderHeader newerHeader) (renderFooter newerFooter) 140 ≡ read (footerRead listChecksum)
   pub pageList : ChosenPageList plainPageList newerPageList
   pub pageListBytes : length (renderPageList plainPageList) ≡ 64
   pub newerPageListBytes : length (renderPageList newerPageList) ≡ 72
   pub pageListReads : pageListBeside (renderHeader plainHeader) (renderPageList plainPageList) 3 80 ≡ read pagesRead
   pub newerPageListReads : pageListBeside (renderHeader newerHeader) (renderPageList newerPageList) 3 80 ≡ read pagesRead
+
+-- The newer footer was raised: the first build reads its old row in it, as in the plain one. Its extension by more bytes says the same. Where the
+-- checksum is missing, 7 is given at the place after the link.
+pub record Raised : Type 0 where
+  pub plainOld : besideByBuild firstBuild (renderHeader plainHeader) (renderFooter plainFooter) 140 ≡ read (footerRead noChecksum)
+  pub newerOld : besideByBuild firstBuild (renderHeader newerHeader) (renderFooter newerFooter) 140 ≡ read (footerRead noChecksum)
+  pub later : ChosenFooter (checksumOf (renderHeader newerHeader)) newerFooter laterFooter
+  pub laterReads : footerBeside (renderHeader newerHeader) (renderFooter laterFooter) 140 ≡ read (footerRead listChecksum)
+  pub missing : footerBeside (renderHeader plainHeader) uncheckedFooter 140 ≡ refusal 2 (record { number = 7; place = 76; kind = Number; list = 32; item = 0 })
+
+-- The newer page list is the one that the newer footer's row means. The plain one has the same counts, and its reader accepts it, but it is not.
+pub record Paired : Type 0 where
+  pub its : checksumOf (renderPageList newerPageList) ≡ listChecksum
+  pub paired : pairedBeside (renderHeader newerHeader) (renderPageList newerPageList) 3 listChecksum 80 ≡ read pagesRead
+  pub alone : pageListBeside (renderHeader newerHeader) (renderPageList plainPageList) 3 80 ≡ read pagesRead
+  pub stale : pairedBeside (renderHeader newerHeader) (renderPageList plainPageList) 3 listChecksum 80 ≡ refusal 3 (fault 26 Envelope 0)
 
 -- the field and the column may be appended; the rules accept the header with them
 pub record Appendable : Type 0 where

@@ -5,3 +5,4 @@ pub mod HeaderLaws
 pub mod PlaceLaws
 pub mod Samples
 pub mod Statements
+pub mod Besides

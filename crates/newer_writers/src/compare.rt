@@ -1,12 +1,19 @@
 // What the readers make of the plain and of the newer envelope of a case.
 use crate::case;
+use page_list::PageListAnswer;
+use rows::NO_CHECKSUM as NONE;
 
 // The tables are the same. Every other answer is the code of what the reader says of the newer envelope, 0 where it accepts and the tables
 // differ; the words of what it says go to a table that is not needed any more.
-pub const SAME: u64 = 4;
+pub const SAME: u64 = 8;
+
+// Kinds beside those of a case: a page list for a row that has its checksum, and the newer one for the row of the plain one.
+pub const PAIRING: u64 = 5;
+
+pub const OLD_ROW: u64 = 6;
 
 // One is added to word number `word` of the newer tables, counted through all of them, where they have it.
-pub fn compare(bytes: &[u8], numbers: [u64; 8], word: u64) -> u64 {
+pub fn compare(bytes: &[u8], numbers: [u64; 11], kind: u64, word: u64) -> u64 {
     let header = reader::text_of(
         bytes,
         case::PLAIN_HEADER_AT,
@@ -20,10 +27,10 @@ pub fn compare(bytes: &[u8], numbers: [u64; 8], word: u64) -> u64 {
     let plain = reader::text_of(bytes, case::PLAIN_AT, numbers[case::PLAIN] as usize);
     let newer = reader::text_of(bytes, case::NEWER_AT, numbers[case::NEWER] as usize);
     let length = numbers[case::FILE_LENGTH];
-    match numbers[case::KIND] {
+    match kind {
         1 => headers(header, newer_header, word),
-        2 => footers(header, plain, newer_header, newer, length, word),
-        _ => page_lists(header, plain, newer_header, newer, length, word),
+        2 | 4 => footers(header, plain, newer_header, newer, numbers, word),
+        _ => page_lists(header, plain, newer_header, newer, kind, length, word),
     }
 }
 
@@ -45,46 +52,98 @@ fn headers(old: &[u8], new: &[u8], word: u64) -> u64 {
     answers::tell_header(y, &mut g) as u64
 }
 
+// The rows of a plain footer of version 1 are compared with the checksums that it gets where it is raised.
 fn footers(
     header: &[u8],
     plain: &[u8],
     newer_header: &[u8],
     newer: &[u8],
-    length: u64,
+    numbers: [u64; 11],
     word: u64,
 ) -> u64 {
-    let mut c = [9u64; 16];
+    let length = numbers[case::FILE_LENGTH];
+    let mut c = [9u64; 20];
     let mut m = [9u64; 8];
     let x = footer::read_footer(header, plain, length, &mut c, &mut m);
-    let mut d = [9u64; 16];
+    raise(&mut c, numbers);
+    let mut d = [9u64; 20];
     let mut n = [9u64; 8];
     let y = footer::read_footer(newer_header, newer, length, &mut d, &mut n);
     change(&mut d, word, 0);
-    change(&mut n, word, 16);
+    change(&mut n, word, 20);
     if same_tables::same_footers(&c, &m, x, &d, &n, y) {
         return SAME;
     }
     answers::tell_footer(y, &mut d) as u64
 }
 
-// The cluster of every page list has three entries.
+// Gives the first three rows their checksums, each where it has none.
+fn raise(clusters: &mut [u64], numbers: [u64; 11]) {
+    raise_word(clusters, 4, numbers[case::FIRST_SUM]);
+    raise_word(clusters, 9, numbers[case::SECOND_SUM]);
+    raise_word(clusters, 14, numbers[case::THIRD_SUM]);
+}
+
+fn raise_word(clusters: &mut [u64], at: usize, checksum: u64) {
+    if at < clusters.len() {
+        if clusters[at] == NONE {
+            clusters[at] = checksum;
+        }
+    }
+}
+
 fn page_lists(
     header: &[u8],
     plain: &[u8],
     newer_header: &[u8],
     newer: &[u8],
+    kind: u64,
     length: u64,
     word: u64,
 ) -> u64 {
     let mut p = [9u64; 80];
-    let x = page_list::read_page_list(header, plain, 3, length, &mut p);
+    let x = read_pages(header, plain, row_sum(kind, plain, plain), length, &mut p);
     let mut q = [9u64; 80];
-    let y = page_list::read_page_list(newer_header, newer, 3, length, &mut q);
+    let y = read_pages(
+        newer_header,
+        newer,
+        row_sum(kind, plain, newer),
+        length,
+        &mut q,
+    );
     change(&mut q, word, 0);
     if same_tables::same_page_lists(&p, x, &q, y) {
         return SAME;
     }
     answers::tell_page_list(y, &mut q) as u64
+}
+
+// The checksum that the row of a page list has.
+fn row_sum(kind: u64, plain: &[u8], list: &[u8]) -> u64 {
+    match kind {
+        PAIRING => sum_of(list),
+        OLD_ROW => sum_of(plain),
+        _ => NONE,
+    }
+}
+
+// The number that an envelope ends with.
+fn sum_of(envelope: &[u8]) -> u64 {
+    numbers::little_4(envelope, std::num::wrapping_sub_usize(envelope.len(), 4))
+}
+
+// The cluster of every page list has three entries. For a row without a checksum the page-list reader itself is called.
+fn read_pages(
+    header: &[u8],
+    list: &[u8],
+    sum: u64,
+    length: u64,
+    pages: &mut [u64],
+) -> PageListAnswer {
+    if sum == NONE {
+        return page_list::read_page_list(header, list, 3, length, pages);
+    }
+    pairing::read_paired_page_list(header, list, 3, sum, length, pages)
 }
 
 // Adds one to word number `word` of all tables, where the table whose first is number `first` has it.

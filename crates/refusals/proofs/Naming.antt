@@ -266,11 +266,14 @@ module _ {ns : List ℕ} where
         (named-fault 2 Envelope 0 refl))
         (named-fault 1 Envelope 0 refl)
 
-    pub named-envelope : {A : Type 0} (supported : ℕ) (r : Bool → Rule A) → ((strict : Bool) → Naming ns (r strict)) → (e : List ℕ) → Named ns (envelope supported r e)
+    pub named-versioned : {A : Type 0} (supported : ℕ) (r : Versions → Rule A) → ((v : Versions) → Naming ns (r v)) → (e : List ℕ) → Named ns (versioned supported r e)
     unfolding versioned
-    named-envelope supported r n e = by (opened supported e) (named-opened supported e)
+    named-versioned supported r n e = by (opened supported e) (named-opened supported e)
       where
-        by : (x : Step Versions) → Named ns x → Named ns (enclosed (λ v. r (v .strict)) e x)
+        by : (x : Step Versions) → Named ns x → Named ns (enclosed r e x)
         by (found v stop) h =
-            named-closed (λ f. f) (λ f. refl) (v .strict) (length (take stop e)) (r (v .strict) (take stop e) 4) (n (v .strict) .at (take stop e) 4)
+            named-closed (λ f. f) (λ f. refl) (v .strict) (length (take stop e)) (r v (take stop e) 4) (n v .at (take stop e) 4)
         by (refused f) h = named-refused (h .number f refl)
+
+    pub named-envelope : {A : Type 0} (supported : ℕ) (r : Bool → Rule A) → ((strict : Bool) → Naming ns (r strict)) → (e : List ℕ) → Named ns (envelope supported r e)
+    named-envelope supported r n = named-versioned supported (λ v. r (v .strict)) (λ v. n (v .strict))

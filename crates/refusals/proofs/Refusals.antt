@@ -19,20 +19,22 @@ use Rattle.header.specs.Tables.{headerOf, answer, outcomeOf, roomFor}
 use Rattle.header.specs.declared.HeaderAnswer.{HeaderAnswer}
 use Rattle.header.specs.declared.HeaderAnswer.the-variants.{Accepted, Refused}
 use Rattle.footer.specs.Footer.{Footer, footerOf}
-use Rattle.footer.specs.Tables.{footerBeside, answer as footerAnswer, outcomeOf as footerOutcome, roomFor as footerRoom}
+use Rattle.footer.specs.Tables.{footerBeside, besideByBuild, answer as footerAnswer, outcomeOf as footerOutcome, roomFor as footerRoom}
 use Rattle.footer.specs.declared.FooterAnswer.{FooterAnswer}
 use Rattle.footer.specs.declared.FooterAnswer.the-variants.{Accepted as AcceptedFooter, Refused as RefusedFooter}
 use Rattle.column_pages.specs.ColumnPages.{pagesOf}
 use Rattle.page_list.specs.PageList.{pageListOf}
-use Rattle.page_list.specs.Tables.{pageListBeside, answer as pageListAnswer, outcomeOf as pageListOutcome, roomFor as pageListRoom}
+use Rattle.page_list.specs.Tables.{pageListBeside, answer as pageListAnswer, outcomeOf as pageListOutcome, roomFor as pageListRoom, Answered as AnsweredPages}
 use Rattle.page_list.specs.declared.PageListAnswer.{PageListAnswer}
 use Rattle.page_list.specs.declared.PageListAnswer.the-variants.{Accepted as AcceptedPages, Refused as RefusedPages}
 use Rattle.rows.specs.declared.PageRow.{PageRow}
-use Rattle.refusals.specs.Refusals.{among, inHeader, inFooter, inPageList, HeaderNumbers, FooterNumbers, PageListNumbers, withRoom, ofHeader, ofBeside, possible, Told, HeaderRefusals, FooterRefusals, PageListRefusals}
+use Rattle.pairing.specs.Paired.{pairedOf, pairedBeside}
+use Rattle.refusals.specs.Refusals.{among, inHeader, inFooter, inPageList, inPairing, HeaderNumbers, FooterNumbers, PageListNumbers, PairingNumbers, withRoom, ofHeader, ofBeside, possible, Told, HeaderRefusals, FooterRefusals, PageListRefusals, PairingRefusals}
 use Rattle.refusals.proofs.Naming.{no, among-more}
 use Rattle.refusals.proofs.HeaderNumbers.{header-numbers}
 use Rattle.refusals.proofs.FooterNumbers.{footer-numbers}
 use Rattle.refusals.proofs.PageListNumbers.{page-list-numbers}
+use Rattle.refusals.proofs.PairingNumbers.{pairing-numbers}
 
 -- the numbers that are listed have one byte
 
@@ -123,7 +125,7 @@ beside-any {A} P k ns r numbers reads first own e = by (headerOf e) (header-numb
 -- footers
 
 footer-possible : (c m : ℕ) (e g : List ℕ) (file : ℕ) → possible (ofBeside 2 inFooter) (footerOutcome (footerAnswer c m (footerBeside e g file))) ≡ true
-unfolding footerBeside footerAnswer FooterNumbers among
+unfolding besideByBuild footerAnswer FooterNumbers among
 footer-possible c m e g file =
     beside-any (λ y. possible (ofBeside 2 inFooter) (footerOutcome (footerAnswer c m y)) ≡ true) 2 inFooter (λ _. footerOf (checksumOf e) file g) (λ _. footer-numbers (checksumOf e) file g)
     (λ f. room (footerRoom c m f) f) (λ f h. h) (λ f h. among-more 20 inFooter (f .number) h) e
@@ -138,20 +140,28 @@ footer-refusals e g file c₀ c m₀ m r call =
     told (ofBeside 2 inFooter) (beside-byte 2 inFooter refl) (footerOutcome r)
     (ap (λ (y : FooterAnswer). possible (ofBeside 2 inFooter) (footerOutcome y)) (call .answers) ∙ footer-possible (length c₀) (length m₀) e g file)
 
--- page lists
+-- page lists, alone and for a cluster's row: every call that reads one beside a header, with these numbers
 
-page-list-possible : (n : ℕ) (e l : List ℕ) (entries file : ℕ) → possible (ofBeside 3 inPageList) (pageListOutcome (pageListAnswer n (pageListBeside e l entries file))) ≡ true
-unfolding pageListBeside pageListAnswer PageListNumbers among
-page-list-possible n e l entries file =
-    beside-any (λ y. possible (ofBeside 3 inPageList) (pageListOutcome (pageListAnswer n y)) ≡ true) 3 inPageList (λ h. pageListOf h entries file l) (λ h. page-list-numbers h entries file l)
-    (λ pss. room (pageListRoom n pss) pss) (λ f h. h) (λ f h. among-more 20 inPageList (f .number) h) e
-  where
-    room : (b : Bool) (pss : List (List PageRow)) → possible (ofBeside 3 inPageList) (pageListOutcome (pick b (AcceptedPages (pagesOf pss)) (RefusedPages 3 20))) ≡ true
-    room true pss = refl
-    room false pss = refl
+module _ (ns : List ℕ) (few : allBelow 256 ns ≡ true) (r : Header → Step (List (List PageRow))) (numbers : (h : Header) (f : Fault) → r h ≡ refused f → among ns (f .number) ≡ true) (e : List ℕ) where
+  pages-possible : (n : ℕ) → possible (ofBeside 3 ns) (pageListOutcome (pageListAnswer n (beside 3 r (headerOf e)))) ≡ true
+  unfolding pageListAnswer among
+  pages-possible n =
+      beside-any (λ y. possible (ofBeside 3 ns) (pageListOutcome (pageListAnswer n y)) ≡ true) 3 ns r numbers
+      (λ pss. room (pageListRoom n pss) pss) (λ f h. h) (λ f h. among-more 20 ns (f .number) h) e
+    where
+      room : (b : Bool) (pss : List (List PageRow)) → possible (ofBeside 3 ns) (pageListOutcome (pick b (AcceptedPages (pagesOf pss)) (RefusedPages 3 20))) ≡ true
+      room true pss = refl
+      room false pss = refl
+
+  pages-told : (p₀ p : List ℕ) (a : PageListAnswer) → AnsweredPages (beside 3 r (headerOf e)) p₀ p a → Told (ofBeside 3 ns) (pageListOutcome a)
+  pages-told p₀ p a call =
+      told (ofBeside 3 ns) (beside-byte 3 ns few) (pageListOutcome a)
+      (ap (λ (y : PageListAnswer). possible (ofBeside 3 ns) (pageListOutcome y)) (call .answers) ∙ pages-possible (length p₀))
 
 pub page-list-refusals : PageListRefusals
-unfolding PageListRefusals
-page-list-refusals e l entries file p₀ p r call =
-    told (ofBeside 3 inPageList) (beside-byte 3 inPageList refl) (pageListOutcome r)
-    (ap (λ (y : PageListAnswer). possible (ofBeside 3 inPageList) (pageListOutcome y)) (call .answers) ∙ page-list-possible (length p₀) e l entries file)
+unfolding PageListRefusals PageListNumbers pageListBeside
+page-list-refusals e l entries file = pages-told inPageList refl (λ h. pageListOf h entries file l) (λ h. page-list-numbers h entries file l) e
+
+pub pairing-refusals : PairingRefusals
+unfolding PairingRefusals PairingNumbers pairedBeside
+pairing-refusals e l entries checksum file = pages-told inPairing refl (λ h. pairedOf h entries checksum file l) (λ h. pairing-numbers h entries checksum file l) e

@@ -5,12 +5,13 @@ use mathlib.Core.List.{List, [], _∷_, map}
 use mathlib.Core.Path.{_≡_}
 use lib.ListN.{length}
 use Rattle.wire.specs.Reading.{Step, found, refused}
-use Rattle.envelope.specs.Envelope.{ceiling}
+use Rattle.envelope.specs.Envelope.{ceiling, checksumOf}
 use Rattle.header.specs.Header.{Header}
 use Rattle.header.specs.Tables.{headerOf}
 use Rattle.footer.specs.Footer.{footerOf}
 use Rattle.page_list.specs.PageList.{pageListOf}
-use Rattle.refusals.specs.Refusals.{inHeader, inFooter, inPageList}
+use Rattle.pairing.specs.Paired.{pairedOf}
+use Rattle.refusals.specs.Refusals.{inHeader, inFooter, inPageList, inPairing}
 
 -- the number of a refusal, 0 where there is none
 abbrev pub numberOf : {A : Type 0} → Step A → ℕ
@@ -57,12 +58,12 @@ footers =
     ∷ (0 ∷ 0 ∷ 0 ∷ 0 ∷ 0 ∷ 0 ∷ 0 ∷ 0 ∷ [])
     -- 4: minimum 0
     ∷ (0 ∷ 0 ∷ 0 ∷ 0 ∷ 28 ∷ 223 ∷ 68 ∷ 33 ∷ [])
-    -- 5: minimum 2
-    ∷ (2 ∷ 0 ∷ 2 ∷ 0 ∷ 21 ∷ 117 ∷ 123 ∷ 185 ∷ [])
+    -- 5: minimum 3
+    ∷ (3 ∷ 0 ∷ 3 ∷ 0 ∷ 49 ∷ 35 ∷ 220 ∷ 24 ∷ [])
     -- 6: feature bit 0
     ∷ (1 ∷ 0 ∷ 1 ∷ 0 ∷ 1 ∷ 0 ∷ 0 ∷ 0 ∷ 0 ∷ 0 ∷ 0 ∷ 0 ∷ 160 ∷ 225 ∷ 24 ∷ 195 ∷ [])
-    -- 7: an empty payload
-    ∷ (1 ∷ 0 ∷ 1 ∷ 0 ∷ 56 ∷ 137 ∷ 227 ∷ 128 ∷ [])
+    -- 7: at version 2 with minimum 1, a cluster record that ends with its link
+    ∷ (2 ∷ 0 ∷ 1 ∷ 0 ∷ 0 ∷ 0 ∷ 0 ∷ 0 ∷ 0 ∷ 0 ∷ 0 ∷ 0 ∷ 7 ∷ 0 ∷ 0 ∷ 0 ∷ 248 ∷ 255 ∷ 255 ∷ 255 ∷ 0 ∷ 0 ∷ 0 ∷ 0 ∷ 248 ∷ 255 ∷ 255 ∷ 255 ∷ 0 ∷ 0 ∷ 0 ∷ 0 ∷ 212 ∷ 255 ∷ 255 ∷ 255 ∷ 1 ∷ 0 ∷ 0 ∷ 0 ∷ 36 ∷ 0 ∷ 0 ∷ 0 ∷ 0 ∷ 0 ∷ 0 ∷ 0 ∷ 0 ∷ 0 ∷ 0 ∷ 0 ∷ 0 ∷ 0 ∷ 0 ∷ 0 ∷ 0 ∷ 0 ∷ 0 ∷ 0 ∷ 0 ∷ 0 ∷ 0 ∷ 0 ∷ 0 ∷ 0 ∷ 0 ∷ 0 ∷ 0 ∷ 0 ∷ 0 ∷ 0 ∷ 0 ∷ 0 ∷ 0 ∷ 0 ∷ 248 ∷ 255 ∷ 255 ∷ 255 ∷ 0 ∷ 0 ∷ 0 ∷ 0 ∷ 99 ∷ 234 ∷ 125 ∷ 125 ∷ [])
     -- 8: a record where the first list is due
     ∷ (1 ∷ 0 ∷ 1 ∷ 0 ∷ 0 ∷ 0 ∷ 0 ∷ 0 ∷ 0 ∷ 0 ∷ 0 ∷ 0 ∷ 7 ∷ 0 ∷ 0 ∷ 0 ∷ 4 ∷ 0 ∷ 0 ∷ 0 ∷ 100 ∷ 136 ∷ 71 ∷ 0 ∷ [])
     -- 10: 1,025 clusters
@@ -131,8 +132,16 @@ pageLists =
     -- 19: no column
     ∷ (1 ∷ 0 ∷ 1 ∷ 0 ∷ 248 ∷ 255 ∷ 255 ∷ 255 ∷ 0 ∷ 0 ∷ 0 ∷ 0 ∷ 177 ∷ 200 ∷ 170 ∷ 159 ∷ []) ∷ []
 
+-- a page list that is accepted alone: a page of 3 elements
+abbrev pub goodPageList : List ℕ
+goodPageList =
+    1 ∷ 0 ∷ 1 ∷ 0 ∷ 224 ∷ 255 ∷ 255 ∷ 255 ∷ 1 ∷ 0 ∷ 0 ∷ 0 ∷ 232 ∷ 255 ∷ 255 ∷ 255 ∷ 1 ∷ 0 ∷ 0 ∷ 0 ∷ 3 ∷ 0 ∷ 0 ∷ 0 ∷ 24 ∷ 0 ∷ 0 ∷ 0 ∷ 0 ∷ 0 ∷ 0 ∷ 0 ∷ 0 ∷ 0 ∷ 0 ∷ 0 ∷ 50 ∷ 65 ∷ 42 ∷ 46 ∷ []
+
 -- the first number is that of any envelope above the ceiling
 pub record EachGiven : Type 0 where
   pub inHeaders : (long : List ℕ) → ceiling < length long → map (λ (e : List ℕ). numberOf (headerOf e)) (long ∷ headers) ≡ inHeader
   pub inFooters : (long : List ℕ) → ceiling < length long → map (λ (g : List ℕ). numberOf (footerOf 7 100 g)) (long ∷ footers) ≡ inFooter
   pub inPageLists : (long : List ℕ) → ceiling < length long → map (λ (l : List ℕ). numberOf (pageListOf oneColumn 3 100 l)) (long ∷ pageLists) ≡ inPageList
+  -- 26 for a row with another checksum, 7, and the page list's numbers for rows with its own
+  pub inPairings : (long : List ℕ) → ceiling < length long
+      → numberOf (pairedOf oneColumn 3 7 100 goodPageList) ∷ map (λ (l : List ℕ). numberOf (pairedOf oneColumn 3 (checksumOf l) 100 l)) (long ∷ pageLists) ≡ inPairing

@@ -17,6 +17,7 @@ use Rattle.footer.specs.declared.FooterAnswer.{FooterAnswer}
 use Rattle.page_list.specs.PageList.{pageListOf}
 use Rattle.page_list.specs.Tables.{pageListBeside, outcomeOf as pageListOutcome, Answered as AnsweredPages}
 use Rattle.page_list.specs.declared.PageListAnswer.{PageListAnswer}
+use Rattle.pairing.specs.Paired.{pairedOf, pairedBeside}
 
 -- n is one of these numbers
 unfoldable pub among : List ℕ → ℕ → Bool
@@ -36,6 +37,10 @@ inFooter = 1 ∷ 2 ∷ 3 ∷ 4 ∷ 5 ∷ 6 ∷ 7 ∷ 8 ∷ 10 ∷ 11 ∷ 12 ∷ 
 abbrev pub inPageList : List ℕ
 inPageList = 1 ∷ 2 ∷ 3 ∷ 4 ∷ 5 ∷ 7 ∷ 8 ∷ 10 ∷ 11 ∷ 12 ∷ 17 ∷ 18 ∷ 19 ∷ []
 
+-- a page list that is read for a cluster's row can have another checksum than the row's
+abbrev pub inPairing : List ℕ
+inPairing = 26 ∷ inPageList
+
 unfoldable pub HeaderNumbers : Type 0
 HeaderNumbers = (e : List ℕ) (f : Fault) → headerOf e ≡ refused f → among inHeader (f .number) ≡ true
 
@@ -44,6 +49,10 @@ FooterNumbers = (checksum file : ℕ) (g : List ℕ) (f : Fault) → footerOf ch
 
 unfoldable pub PageListNumbers : Type 0
 PageListNumbers = (h : Header) (entries file : ℕ) (l : List ℕ) (f : Fault) → pageListOf h entries file l ≡ refused f → among inPageList (f .number) ≡ true
+
+unfoldable pub PairingNumbers : Type 0
+PairingNumbers =
+    (h : Header) (entries checksum file : ℕ) (l : List ℕ) (f : Fault) → pairedOf h entries checksum file l ≡ refused f → among inPairing (f .number) ≡ true
 
 -- The refusals of a call.
 
@@ -84,3 +93,8 @@ unfoldable pub PageListRefusals : Type 0
 PageListRefusals =
     (e l : List ℕ) (entries file : ℕ) (p₀ p : List ℕ) (r : PageListAnswer) → AnsweredPages (pageListBeside e l entries file) p₀ p r
     → Told (ofBeside 3 inPageList) (pageListOutcome r)
+
+unfoldable pub PairingRefusals : Type 0
+PairingRefusals =
+    (e l : List ℕ) (entries checksum file : ℕ) (p₀ p : List ℕ) (r : PageListAnswer) → AnsweredPages (pairedBeside e l entries checksum file) p₀ p r
+    → Told (ofBeside 3 inPairing) (pageListOutcome r)

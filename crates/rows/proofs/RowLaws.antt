@@ -110,7 +110,7 @@ pub links-back : LinksBack
 links-back = gives-back linkWords linkOf 2 (λ _. refl) (omega arith) (λ _. refl)
 
 pub clusters-back : ClustersBack
-clusters-back = gives-back clusterWords clusterOf 4 (λ _. refl) (omega arith) (λ _. refl)
+clusters-back = gives-back clusterWords clusterOf 5 (λ _. refl) (omega arith) (λ _. refl)
 
 pub bit-back : (b : Bool) → eqb (bit b) 1 ≡ b
 bit-back true = refl

@@ -26,13 +26,17 @@ abbrev pub aliasWidth : ℕ
 aliasWidth = 2
 
 abbrev pub clusterWidth : ℕ
-clusterWidth = 4
+clusterWidth = 5
 
 abbrev pub linkWidth : ℕ
 linkWidth = 2
 
 abbrev pub pageWidth : ℕ
 pageWidth = 5
+
+-- stands in a cluster's row where its footer carries no checksum of the page list: no number of four bytes
+abbrev pub noChecksum : ℕ
+noChecksum = 4294967296
 
 -- the most rows that each table can get; pages are counted over a whole page list
 
@@ -91,7 +95,7 @@ abbrev pub linkWords : Link → List ℕ
 linkWords l = l .size ∷ l .offset ∷ []
 
 abbrev pub clusterWords : ClusterRow → List ℕ
-clusterWords c = c .«first_entry» ∷ c .entries ∷ linkWords (c .«page_list»)
+clusterWords c = c .«first_entry» ∷ c .entries ∷ c .«page_list» .size ∷ c .«page_list» .offset ∷ c .checksum ∷ []
 
 abbrev pub pageWords : PageRow → List ℕ
 pageWords p = p .column .0 ∷ p .elements ∷ bit (p .checksum) ∷ p .size ∷ p .offset ∷ []
@@ -124,7 +128,8 @@ abbrev pub linkOf : List ℕ → Link
 linkOf ws = record { size = getD ws 0 0; offset = getD ws 1 0 }
 
 abbrev pub clusterOf : List ℕ → ClusterRow
-clusterOf ws = record { «first_entry» = getD ws 0 0; entries = getD ws 1 0; «page_list» = record { size = getD ws 2 0; offset = getD ws 3 0 } }
+clusterOf ws =
+    record { «first_entry» = getD ws 0 0; entries = getD ws 1 0; «page_list» = record { size = getD ws 2 0; offset = getD ws 3 0 }; checksum = getD ws 4 0 }
 
 abbrev pub pageOf : List ℕ → PageRow
 pageOf ws =

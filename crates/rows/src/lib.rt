@@ -29,11 +29,14 @@ pub const COLUMN_WORDS: usize = 4;
 
 pub const ALIAS_WORDS: usize = 2;
 
-pub const CLUSTER_WORDS: usize = 4;
+pub const CLUSTER_WORDS: usize = 5;
 
 pub const LINK_WORDS: usize = 2;
 
 pub const PAGE_WORDS: usize = 5;
+
+// Stands in a cluster's row where its footer carries no checksum of the page list: no number of four bytes.
+pub const NO_CHECKSUM: u64 = 4294967296;
 
 // The words of a table that has room for all the rows that there can be.
 pub const FULL_FIELDS: usize = FIELD_WORDS * MOST_FIELDS;
@@ -91,6 +94,8 @@ pub struct ClusterRow {
     pub first_entry: u64,
     pub entries: u64,
     pub page_list: Link,
+    // The page list's checksum, or NO_CHECKSUM.
+    pub checksum: u64,
 }
 
 pub struct PageRow {

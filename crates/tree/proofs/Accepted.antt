@@ -21,7 +21,7 @@ use Rattle.header.specs.Tables.{headerOf, outcomeOf, roomFor, Answered, parents
 use Rattle.header.specs.declared.HeaderAnswer.{HeaderAnswer}
 use Rattle.header.specs.declared.HeaderAnswer.the-variants.{Accepted, Refused}
 use Rattle.footer.specs.Footer.{Footer, footerOf}
-use Rattle.footer.specs.Tables.{footerBeside, answer as footerAnswer, outcomeOf as footerOutcome, roomFor as footerRoom, Answered as AnsweredFooter}
+use Rattle.footer.specs.Tables.{besideByBuild, footerBeside, answer as footerAnswer, outcomeOf as footerOutcome, roomFor as footerRoom, Answered as AnsweredFooter}
 use Rattle.footer.specs.declared.FooterAnswer.{FooterAnswer}
 use Rattle.footer.specs.declared.FooterAnswer.the-variants.{Accepted as AcceptedFooter, Refused as RefusedFooter}
 use Rattle.column_pages.specs.ColumnPages.{bitsOf, pagesOf}
@@ -40,7 +40,7 @@ use Rattle.tree.specs.Accepted.{HeaderWritten, HeaderFits, HeaderAccepte
 use Rattle.numbers.proofs.Choice.{both-true}
 use Rattle.tree.proofs.HeaderLaws.{header-complete, header-sound, tables-known}
 use Rattle.tree.proofs.HeaderCalls.{accepted-call, roomy-call}
-use Rattle.tree.proofs.Besides.{Both, both-read, both-read-is, beside-names}
+use Rattle.header.proofs.Besides.{Both, both-read, both-read-is, beside-names}
 use Rattle.tree.proofs.PageListLaws.{rows-pages}
 use Rattle.tree.proofs.Exactly.{footer-exactly, page-list-exactly}
 
@@ -116,7 +116,7 @@ pub record FooterRead (e g : List ℕ) (file c m : ℕ) : Type 0 where
   pub both : Both (λ _. footerOf (checksumOf e) file g) (headerOf e) footer
 
 pub footer-read : (e g : List ℕ) (file c m : ℕ) → isAccepted (footerOutcome (footerAnswer c m (footerBeside e g file))) ≡ true → FooterRead e g file c m
-unfolding footerBeside footerAnswer
+unfolding besideByBuild footerAnswer
 footer-read e g file c m h = by (footerBeside e g file) refl h
   where
     roomy : (f : Footer) → footerBeside e g file ≡ read f → (b : Bool) → footerRoom c m f ≡ b
@@ -151,7 +151,7 @@ footer-fits e g file c₀ c m₀ m r bytes bytes′ call accepts =
     }
 
 pub footer-accepted : FooterAccepted
-unfolding FooterAccepted footerBeside footerAnswer
+unfolding FooterAccepted besideByBuild footerAnswer
 footer-accepted e g file c₀ c m₀ m r bytes bytes′ call =
     record {
       only = footer-fits e g file c₀ c m₀ m r bytes bytes′ call;

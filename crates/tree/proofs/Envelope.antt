@@ -27,16 +27,16 @@ unfolding crc32
 crc-bound bs = omega arith
 
 -- what the checks before the payload come to
-record Opened (supported : ℕ) (s : List ℕ) (n : ℕ) : Type 0 where
-  small : length s ≤ ceiling
-  long : length s ≡ n + 4
-  enough : 4 ≤ n
-  sum : crc32 (take n s) ≡ little 4 s n
-  least : 1 ≤ little 2 s 2
-  order : little 2 s 2 ≤ little 2 s 0
-  read : little 2 s 2 ≤ supported
+pub record Opened (supported : ℕ) (s : List ℕ) (n : ℕ) : Type 0 where
+  pub small : length s ≤ ceiling
+  pub long : length s ≡ n + 4
+  pub enough : 4 ≤ n
+  pub sum : crc32 (take n s) ≡ little 4 s n
+  pub least : 1 ≤ little 2 s 2
+  pub order : little 2 s 2 ≤ little 2 s 0
+  pub read : little 2 s 2 ≤ supported
 
-opens : {A : Type 0} (supported : ℕ) (r : Versions → Rule A) (s : List ℕ) (n : ℕ) → Opened supported s n
+pub opens : {A : Type 0} (supported : ℕ) (r : Versions → Rule A) (s : List ℕ) (n : ℕ) → Opened supported s n
     → versioned supported r s ≡ closed (strictOf s) n (r (versionsOf s) (take n s) 4)
 unfolding versioned opened
 opens supported r s n o =
@@ -83,7 +83,7 @@ enclosed-found : {A : Type 0} (r : Versions → Rule A) (s : List ℕ) (x : Step
 enclosed-found r s (found v p) a q e = (v, p, refl)
 enclosed-found r s (refused f) a q e = let z : _≡_ {A = ℕ} 0 1 = cc in absurd (omega arith)
 
-was-opened : {A : Type 0} (supported : ℕ) (r : Versions → Rule A) (s : List ℕ) (a : A) (q : ℕ) → versioned supported r s ≡ found a q
+pub was-opened : {A : Type 0} (supported : ℕ) (r : Versions → Rule A) (s : List ℕ) (a : A) (q : ℕ) → versioned supported r s ≡ found a q
     → Opened supported s (length s - 4) × (closed (strictOf s) (length s - 4) (r (versionsOf s) (take (length s - 4) s) 4) ≡ found a q)
 unfolding versioned
 was-opened supported r s a q e =

@@ -8,7 +8,7 @@ use Rattle.numbers.specs.Choice.{pick}
 use Rattle.wire.specs.Reading.{Rule, _>>=_, give, number, tested, below, listed}
 use Rattle.text.specs.Strings.{string}
 use Rattle.records.specs.Records.{repetitive, repetition, fieldHead, fieldTexts, field, sized, column, aliasable, alias}
-use Rattle.tree.specs.Shape.{Shape, Law, bare, numberShape, NoVerdict, stringShape, chars, thenShape}
+use Rattle.tree.specs.Shape.{Shape, Law, bare, numberShape, optionalShape, NoVerdict, stringShape, chars, thenShape}
 use Rattle.tree.specs.HeaderTree.{textsContent, fieldContent, repetitionShape, headTuple, tupleHead, headShape, stringsTuple, tupleStrings, stringsShape, fieldTuple, tupleField, fieldShape, columnTuple, tupleColumn, columnShape, aliasTuple, tupleAlias, aliasShape}
 use Rattle.tree.proofs.Simple.{plain-law, number-law, string-law, nothing-law, next, seen-law}
 
@@ -30,33 +30,36 @@ module _ (s : List ℕ) (strict : Bool) where
       → Law s strict (string >>= r) bare (thenShape bare stringShape G) N
   string-next small second = next (string-law s strict small) second
 
+  -- a number that is there or not, then what may hang on it
+  pub optional-next : {B U : Type 0} (there : Bool) (k none : ℕ) {r : ℕ → Rule B} {G : ℕ → Shape U U} {N : ℕ × U → B → Type 0}
+      → ((n : ℕ) → Law s strict (r n) bare (G n) (λ d b. N (n, d) b))
+      → Law s strict (pick there (number k) (give none) >>= r) bare (thenShape bare (optionalShape there k none) G) N
+  optional-next true k none second = plain-next k second
+  optional-next false k none {r} {G} {N} second =
+      record {
+        complete = λ end p t inside valid plain stands fits.
+            let e : none ≡ t .0 = sym (valid .0) in
+            let one = subst (λ x. Law s strict (r x) bare (G (t .0)) (λ d b. N (t .0, d) b)) (sym e) (second (t .0)) in
+            let two = one .complete end p (t .1) inside (valid .1) plain stands fits in
+            record { value = two .value; reads = two .reads; means = two .means };
+        sound = λ end p b q bytes some inside at reads.
+            let w = second none .sound end p b q bytes some inside at reads in
+            record {
+              tree = (none, w .tree);
+              valid = (refl, w .valid);
+              plain = λ _. tt;
+              stands = w .stands;
+              stop = w .stop;
+              fits = w .fits;
+              means = w .means;
+            };
+      }
+
   repetition-next : {B U : Type 0} (flags : ℕ) {r : ℕ → Rule B} {G : ℕ → Shape U U} {N : ℕ × U → B → Type 0}
       → ((n : ℕ) → Law s strict (r n) bare (G n) (λ d b. N (n, d) b))
       → Law s strict (repetition flags >>= r) bare (thenShape bare (repetitionShape (repetitive flags)) G) N
   unfolding repetition
-  repetition-next flags {r} {G} {N} second = by (repetitive flags)
-    where
-      by : (b : Bool) → Law s strict (pick b (number 8) (give 0) >>= r) bare (thenShape bare (repetitionShape b) G) N
-      by true = plain-next 8 second
-      by false =
-          record {
-            complete = λ end p t inside valid plain stands fits.
-                let e : 0 ≡ t .0 = sym (valid .0) in
-                let one = subst (λ x. Law s strict (r x) bare (G (t .0)) (λ d b. N (t .0, d) b)) (sym e) (second (t .0)) in
-                let two = one .complete end p (t .1) inside (valid .1) plain stands fits in
-                record { value = two .value; reads = two .reads; means = two .means };
-            sound = λ end p b q bytes some inside at reads.
-                let w = second 0 .sound end p b q bytes some inside at reads in
-                record {
-                  tree = (0, w .tree);
-                  valid = (refl, w .valid);
-                  plain = λ _. tt;
-                  stands = w .stands;
-                  stop = w .stop;
-                  fits = w .fits;
-                  means = w .means;
-                };
-          }
+  repetition-next flags second = optional-next (repetitive flags) 8 0 second
 
   head-law : (n : ℕ) → Law s strict (fieldHead n) bare (headShape n) (λ c a. a ≡ c)
   unfolding fieldHead headShape

@@ -1,14 +1,16 @@
--- One header, one spelling; and the standard spelling of the tables of each envelope: version 1, minimum 1, one zero feature word (a page list
--- has none), no spare bytes.
+-- One header, one spelling; and the standard spelling of the tables of each envelope: version 1 (a footer with the checksums of its page
+-- lists: 2), minimum 1, one zero feature word (a page list has none), no spare bytes.
 use Prim.Native.Nat.{ℕ, _+_, _*_, _^_, _≤_}
-use mathlib.Core.List.{List, [], map}
+use mathlib.Core.List.{List, [], _∷_, map}
 use mathlib.Core.Path.{_≡_}
 use lib.ListN.{length}
+use lib.Dec.{eqb}
+use Rattle.numbers.specs.Choice.{pick}
 use Rattle.numbers.specs.Numbers.{little}
 use Rattle.wire.specs.Reading.{found}
 use Rattle.header.specs.Header.{Header}
 use Rattle.header.specs.Tables.{headerOf}
-use Rattle.rows.specs.Words.{bit}
+use Rattle.rows.specs.Words.{bit, noChecksum}
 use Rattle.footer.specs.Footer.{Footer, footerOf}
 use Rattle.rows.specs.declared.Link.{Link}
 use Rattle.rows.specs.declared.ClusterRow.{ClusterRow}
@@ -75,13 +77,19 @@ abbrev pub linkOf : Link → LinkContent
 linkOf l = record { size = l .size; stored = l .size; offset = l .offset }
 
 abbrev pub clusterOf : ClusterRow → ClusterContent
-clusterOf r = record { first = r .«first_entry»; entries = r .entries; link = linkOf (r .«page_list») }
+clusterOf r = record { first = r .«first_entry»; entries = r .entries; link = linkOf (r .«page_list»); checksum = r .checksum }
+
+-- the version that clusters are written with: 2 where they have the checksums of their page lists. (All or none have, in a footer that is
+-- read, so the first one tells.)
+abbrev pub footerVersion : List ClusterRow → ℕ
+footerVersion [] = 1
+footerVersion (c ∷ cs) = pick (eqb (c .checksum) noChecksum) 1 2
 
 -- the tree of tables beside a header with this checksum, in the standard spelling
 unfoldable pub standardFooter : ℕ → Footer → FooterTree
 standardFooter checksum f =
     record {
-      version = 1;
+      version = footerVersion (f .clusters);
       minimum = 1;
       inside = record {
         words = 0;

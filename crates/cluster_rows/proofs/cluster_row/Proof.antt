@@ -14,9 +14,12 @@ word-requires-3 c κs = search needs
 word-requires-4 : tie.Need-word-requires-4
 word-requires-4 c κs = search needs
 
+word-requires-5 : tie.Need-word-requires-5
+word-requires-5 c κs = search needs
+
 returns : tie.Need-returns
-returns c = rw (← c .before .before .before .word .ensures, ← c .before .before .word2 .ensures, ← c .before .word3 .ensures, ← c .word4 .ensures)
+returns c = rw (← c .before .before .before .before .word .ensures, ← c .before .before .before .word2 .ensures, ← c .before .before .word3 .ensures, ← c .before .word4 .ensures, ← c .word5 .ensures)
 
 pub cluster-row-spec : {M : Type 1} → statement M
 cluster-row-spec =
-    tie.close (tie.spec word-requires word-requires-2 word-requires-3 word-requires-4 returns)
+    tie.close (tie.spec word-requires word-requires-2 word-requires-3 word-requires-4 word-requires-5 returns)

@@ -3,6 +3,7 @@ use native.Mathlib.Omega.{arith}
 use borrow.Author.Tests.{lt-leb}
 use lib.ListN.{length}
 use Rattle.numbers.specs.Rows.{put}
+use Rattle.rows.specs.Words.{clusterWidth}
 use borrow.Author.Needs.{needs}
 use Rattle.cluster_rows.proofs.put_cluster.Statement.{statement}
 use Rattle.cluster_rows.proofs.put_cluster.Tie as tie
@@ -24,7 +25,7 @@ returns c = c .before .before .put-words .ensures
 
 returns-2 : tie.Need-returns-2
 unfolding put
-returns-2 c = let a = c .before .before .args in simp (lt-leb (4 * (a .i) + 4) (length (a .table .now)) (omega arith))
+returns-2 c = let a = c .before .before .args in simp (lt-leb (clusterWidth * (a .i) + clusterWidth) (length (a .table .now)) (omega arith))
 
 pub put-cluster-spec : {M : Type 1} → statement M
 put-cluster-spec =

@@ -21,6 +21,9 @@ enum-known-opening c = search needs
 up-to-requires : tie.Need-up-to-requires
 up-to-requires c κs = search needs
 
+carries-checksums-requires : tie.Need-carries-checksums-requires
+carries-checksums-requires c κs = search needs
+
 read-payload-requires : tie.Need-read-payload-requires
 read-payload-requires c κs = search needs
 
@@ -37,8 +40,10 @@ same-length-2 : tie.Need-same-length-2
 same-length-2 c = search needs
 
 returns : tie.Need-returns
-returns c = let w = header-accepted (c .before .before .before .before .before .before .before .before .before .before .before .before .before .before .before .before .before .before .before .args .header .now) (c .before .before .before .before .before .before .before .before .before .before .before .before .before .before .read-schema .ensures) (c .before .before .before .before .before .before .before .before .before .before .before .before .enum-told .given .1) in
-    footer-read (c .before .before .before .before .before .before .before .before .before .before .before .before .before .before .before .before .before .before .before .args .header .now) (c .before .before .before .before .before .before .before .before .before .before .before .before .before .before .before .before .before .before .before .args .footer .now) (c .before .before .before .before .before .before .before .before .before .before .before .before .before .before .before .before .before .before .before .args .«file-length») (w .2) (sym (c .before .before .before .before .before .before .before .before .before .before .before .open-envelope .ensures) ∙ ap openStep (c .before .before .before .before .before .before .before .before .before .opening .given .1)) (its-checksum (c .before .before .before .before .before .before .before .before .before .before .before .before .before .before .before .before .before .before .before .args .header .now) (c .before .before .before .before .before .before .before .before .before .before .before .before .before .before .read-schema .ensures) (w .2)) (c .before .before .before .before .before .before .before .up-to .ensures) (c .before .before .before .before .read-payload .ensures)
+returns c =
+    let a = c .before .before .before .before .before .before .before .before .before .before .before .before .before .before .before .before .before .before .before .before .args in
+    let w = header-accepted (a .header .now) (c .before .before .before .before .before .before .before .before .before .before .before .before .before .before .before .read-schema .ensures) (c .before .before .before .before .before .before .before .before .before .before .before .before .before .enum-told .given .1) in
+    footer-read (a .header .now) (a .footer .now) (a .«file-length») (w .2) (sym (c .before .before .before .before .before .before .before .before .before .before .before .before .open-envelope .ensures) ∙ ap openStep (c .before .before .before .before .before .before .before .before .before .before .opening .given .1)) (its-checksum (a .header .now) (c .before .before .before .before .before .before .before .before .before .before .before .before .before .before .before .read-schema .ensures) (w .2)) (c .before .before .before .before .before .before .before .before .up-to .ensures) (c .before .before .before .before .before .before .before .carries-checksums .ensures) (c .before .before .before .before .read-payload .ensures)
 
 returns-2 : tie.Need-returns-2
 returns-2 c = let w = header-accepted (c .before .before .before .before .before .before .before .before .before .before .before .args .header .now) (c .before .before .before .before .before .before .read-schema .ensures) (c .before .before .before .before .enum-told .given .1) in
@@ -50,4 +55,4 @@ returns-3 c =
     answered-refused _ _ (header-first (c .before .before .before .before .before .before .before .before .args .header .now) (c .before .before .before .before .before .before .before .before .args .footer .now) (c .before .before .before .before .before .before .before .before .args .«file-length») w)
 
 pub read-footer-spec : {M : Type 1} → statement M
-read-footer-spec = tie.close (tie.spec read-schema-requires enum-told open-envelope-requires enum-known-opening up-to-requires read-payload-requires enum-known-f enum-known-verdict same-length same-length-2 returns returns-2 returns-3)
+read-footer-spec = tie.close (tie.spec read-schema-requires enum-told open-envelope-requires enum-known-opening up-to-requires carries-checksums-requires read-payload-requires enum-known-f enum-known-verdict same-length same-length-2 returns returns-2 returns-3)

@@ -1,15 +1,14 @@
 -- `run_cases` is safe and ends: each turn leaves fewer turns.
 use Prim.Native.Nat.{_-_}
 use native.Mathlib.Omega.{arith}
-use borrow.Author.Needs.{needs}
 use Rattle.newer_writers.proofs.run_cases.Statement.{statement}
 use Rattle.newer_writers.proofs.run_cases.Tie as tie
 
 abbrev Inv-loop : tie.InvT-loop
-Inv-loop file counts₀ turns₀ t4 t5 t6 counts turns = Unit {0}
+Inv-loop file counts₀ turns₀ counts turns = Unit {0}
 
 abbrev μ-loop : tie.MeasureT-loop
-μ-loop file counts₀ turns₀ t4 t5 t6 counts turns = 1000 - turns
+μ-loop file counts₀ turns₀ counts turns = 1000 - turns
 
 loop-holds : tie.Need-loop-holds Inv-loop μ-loop
 loop-holds c = tt
@@ -26,23 +25,8 @@ loop-less c = omega arith
 loop-again : tie.Need-loop-again Inv-loop μ-loop
 loop-again c = tt
 
-slice-aggregate-print-counts : tie.Need-slice-aggregate-print-counts Inv-loop μ-loop
-slice-aggregate-print-counts c = search needs
-
-print-counts-requires : tie.Need-print-counts-requires Inv-loop μ-loop
-print-counts-requires c κs = tt
-
-slice-aggregate-print-counts-2 : tie.Need-slice-aggregate-print-counts-2 Inv-loop μ-loop
-slice-aggregate-print-counts-2 c = search needs
-
-print-counts-requires-2 : tie.Need-print-counts-requires-2 Inv-loop μ-loop
-print-counts-requires-2 c κs = tt
-
-slice-aggregate-print-counts-3 : tie.Need-slice-aggregate-print-counts-3 Inv-loop μ-loop
-slice-aggregate-print-counts-3 c = search needs
-
-print-counts-requires-3 : tie.Need-print-counts-requires-3 Inv-loop μ-loop
-print-counts-requires-3 c κs = tt
+print-all-requires : tie.Need-print-all-requires Inv-loop μ-loop
+print-all-requires c κs = tt
 
 returns : tie.Need-returns Inv-loop μ-loop
 returns c = tt
@@ -58,10 +42,5 @@ run-cases-spec =
     add-turns
     loop-less
     loop-again
-    slice-aggregate-print-counts
-    print-counts-requires
-    slice-aggregate-print-counts-2
-    print-counts-requires-2
-    slice-aggregate-print-counts-3
-    print-counts-requires-3
+    print-all-requires
     returns)

@@ -40,20 +40,20 @@ enum-known-f-3 c = search needs
 
 returns : tie.Need-returns
 returns c =
-    record-ended _ (cluster _ _) _ _ (sym (c .before .before .before .before .before .before .before .before .before .before .before .before .record-head .ensures) ∙ ap frameStep (c .before .before .before .before .before .before .before .before .before .before .start .given .1)) (c .before .before .before .before .before .before .before .before .up-to .ensures) (sym (c .before .before .before .before .before .before .before .cluster-at .ensures) ∙ ap clusterStep (c .before .before .before .before .before .row .given .1))
+    record-ended _ (cluster _ _ _) _ _ (sym (c .before .before .before .before .before .before .before .before .before .before .before .before .record-head .ensures) ∙ ap frameStep (c .before .before .before .before .before .before .before .before .before .before .start .given .1)) (c .before .before .before .before .before .before .before .before .up-to .ensures) (sym (c .before .before .before .before .before .before .before .cluster-at .ensures) ∙ ap clusterStep (c .before .before .before .before .before .row .given .1))
     (sym (ap placeStep (c .before .next .given .1)) ∙ c .before .before .before .close-frame .ensures)
 
 returns-2 : tie.Need-returns-2
 returns-2 c =
-    record-spared _ (cluster _ _) _ _ (sym (c .before .before .before .before .before .before .before .before .before .before .before .before .record-head .ensures) ∙ ap frameStep (c .before .before .before .before .before .before .before .before .before .before .start .given .1)) (c .before .before .before .before .before .before .before .before .up-to .ensures) (sym (c .before .before .before .before .before .before .before .cluster-at .ensures) ∙ ap clusterStep (c .before .before .before .before .before .row .given .1))
+    record-spared _ (cluster _ _ _) _ _ (sym (c .before .before .before .before .before .before .before .before .before .before .before .before .record-head .ensures) ∙ ap frameStep (c .before .before .before .before .before .before .before .before .before .before .start .given .1)) (c .before .before .before .before .before .before .before .before .up-to .ensures) (sym (c .before .before .before .before .before .before .before .cluster-at .ensures) ∙ ap clusterStep (c .before .before .before .before .before .row .given .1))
     (sym (ap placeStep (c .before .f .given .1)) ∙ c .before .before .before .close-frame .ensures)
 
 returns-3 : tie.Need-returns-3
 returns-3 c =
-    content-refused _ (cluster _ _) _ _ (sym (c .before .before .before .before .before .before .before .before .record-head .ensures) ∙ ap frameStep (c .before .before .before .before .before .before .start .given .1)) (c .before .before .before .before .up-to .ensures) (sym (c .before .before .before .cluster-at .ensures) ∙ ap clusterStep (c .before .f2 .given .1))
+    content-refused _ (cluster _ _ _) _ _ (sym (c .before .before .before .before .before .before .before .before .record-head .ensures) ∙ ap frameStep (c .before .before .before .before .before .before .start .given .1)) (c .before .before .before .before .up-to .ensures) (sym (c .before .before .before .cluster-at .ensures) ∙ ap clusterStep (c .before .f2 .given .1))
 
 returns-4 : tie.Need-returns-4
-returns-4 c = record-refused _ (cluster _ _) _ _ (sym (c .before .before .before .record-head .ensures) ∙ ap frameStep (c .before .f3 .given .1))
+returns-4 c = record-refused _ (cluster _ _ _) _ _ (sym (c .before .before .before .record-head .ensures) ∙ ap frameStep (c .before .f3 .given .1))
 
 pub cluster-record-spec : {M : Type 1} → statement M
 cluster-record-spec = tie.close (tie.spec record-head-requires enum-known-start up-to-requires cluster-at-requires enum-known-row close-frame-requires enum-known-next enum-known-f enum-known-f-2 enum-known-f-3 returns returns-2 returns-3 returns-4)

@@ -9,10 +9,10 @@ use Rattle.clusters.proofs.cluster.scan_clusters.Statement.{statement}
 use Rattle.clusters.proofs.cluster.scan_clusters.Tie as tie
 
 abbrev Inv-loop : tie.InvT-loop
-Inv-loop s strict list file count sum₀ i₀ at₀ sum i at = Summed strict file list count s at₀ i at sum
+Inv-loop s carried strict list file count sum₀ i₀ at₀ sum i at = Summed carried strict file list count s at₀ i at sum
 
 abbrev μ-loop : tie.MeasureT-loop
-μ-loop s strict list file count sum₀ i₀ at₀ sum i at = count - i
+μ-loop s carried strict list file count sum₀ i₀ at₀ sum i at = count - i
 
 loop-holds : tie.Need-loop-holds Inv-loop μ-loop
 loop-holds c = summed-none
@@ -26,7 +26,7 @@ enum-known-row c = search needs
 add-sum : tie.Need-add-sum Inv-loop μ-loop
 add-sum c =
     let a = c .before .before .before .before .before .before .before .before .args in
-    let few = record-fits (a .strict) (a .file) (c .before .before .before .before .before .before .loop .sum) (a .s .now) (c .before .before .before .before .before .before .loop .at) (sym (c .before .before .before .before .cluster-record .ensures) ∙ ap clusterStep (c .before .before .row .given .1)) in
+    let few = record-fits (a .carried) (a .strict) (a .file) (c .before .before .before .before .before .before .loop .sum) (a .s .now) (c .before .before .before .before .before .before .loop .at) (sym (c .before .before .before .before .cluster-record .ensures) ∙ ap clusterStep (c .before .before .row .given .1)) in
     omega arith
 
 add-i : tie.Need-add-i Inv-loop μ-loop

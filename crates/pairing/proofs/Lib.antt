@@ -1,0 +1,2 @@
+pub mod PairedLaws
+pub mod Pairs

@@ -1,0 +1,3 @@
+pub mod Paired
+pub mod Stale
+pub mod Statements
