@@ -17,7 +17,7 @@
  *    2  envelope below 8 bytes
  *    3  checksum differs
  *    4  minimum version 0, or above the version
- *    5  minimum version above 1
+ *    5  minimum version above 1, of a footer above 2
  *    6  feature bit set, other than bit 63
  *    7  number, string or frame runs past its container
  *    8  wrong frame kind, size below its own head, reserved bits set
@@ -41,6 +41,7 @@
  *   23  column type unknown, or Switch
  *   24  unused bits of a Bit page set
  *   25  element to encode does not fit its width
+ *   26  page list has another checksum than its cluster's row
  *
  * Results. A call with result words writes all of them: the values named at
  * the call when it accepts, zeros when it refuses. Words beyond those named
@@ -68,9 +69,15 @@ extern "C" {
 #define RNT_FIELD_WORDS 15
 #define RNT_COLUMN_WORDS 4
 #define RNT_ALIAS_WORDS 2
-#define RNT_CLUSTER_WORDS 4
+#define RNT_CLUSTER_WORDS 5
 #define RNT_LINK_WORDS 2
 #define RNT_PAGE_WORDS 5
+
+/*
+ * In place of a page list's checksum: the footer carries none. It is one more
+ * than a checksum can be.
+ */
+#define RNT_NO_CHECKSUM UINT64_C(4294967296)
 
 /* The most rows that an accepted envelope can have. */
 #define RNT_MOST_FIELDS 512
@@ -107,8 +114,9 @@ uint32_t rnt_read_header(const uint8_t *envelope, size_t envelope_length,
  * Reads a footer under its header, for a file of the given length. Refusals
  * have envelope 1 where the header is refused, else 2.
  *
- * Cluster row, 4 words: first entry, entry count, size and offset of the link
- * to its page list.
+ * Cluster row, 5 words: first entry, entry count, size and offset of the link
+ * to its page list, then the checksum of that page list. Footers of version 2
+ * and above carry it; in the rows of others that word is RNT_NO_CHECKSUM.
  * Metadata row, 2 words: size and offset of the link.
  *
  * Result, 2 words: number of clusters, number of metadata links.
@@ -137,6 +145,27 @@ uint32_t rnt_read_page_list(const uint8_t *header, size_t header_length,
                             uint64_t entries, uint64_t file_length,
                             uint64_t *pages, size_t page_words,
                             uint64_t *result, size_t result_words);
+
+/*
+ * Reads the page list of a cluster row: entries and checksum are the row's
+ * words 1 and 4. Where the row has a checksum, the page list has to end with
+ * the same; an older one with the same counts does not pass.
+ * RNT_NO_CHECKSUM alone says that the row has none. Every other number is
+ * compared whole, so one above 32 bits is no page list's.
+ *
+ * Refusals: first those of the header (envelope 1), then 1 to 3 of the page
+ * list, then 26 where the checksums differ (both envelope 3). Otherwise the
+ * answer, the table and the result are those of rnt_read_page_list.
+ *
+ * Result, 1 word: number of pages.
+ */
+uint32_t rnt_read_paired_page_list(const uint8_t *header, size_t header_length,
+                                   const uint8_t *page_list,
+                                   size_t page_list_length,
+                                   uint64_t entries, uint64_t checksum,
+                                   uint64_t file_length,
+                                   uint64_t *pages, size_t page_words,
+                                   uint64_t *result, size_t result_words);
 
 /*
  * Decodes a page into words[start] and the words after it, one word for each

@@ -2,6 +2,8 @@
 //! library and the independent reader, and beside memcpy of what it writes.
 
 use differential::generate::random::Random;
+use differential::reference::footer::{CLUSTER_WORDS, LINK_WORDS};
+use differential::reference::page_list::PAGE_WORDS;
 use differential::reference::pages::stored_bits;
 use differential::writer::{stored_checksum, Writer};
 use differential::{calls, reference, writer};
@@ -388,13 +390,13 @@ fn headers(random: &mut Random) {
     }
 }
 
-fn footers(random: &mut Random) {
-    let header = smallest_header();
+/// A footer at its ceilings; from version 2 on it carries checksums.
+fn largest_footer(random: &mut Random, header: &[u8], version: u16) -> Vec<u8> {
     let mut footer = writer::Footer {
-        header_checksum: stored_checksum(&header),
+        header_checksum: stored_checksum(header),
         ..Default::default()
     };
-    let file_length = 1 << 40;
+    footer.outside.version = version;
     let mut link = || writer::Link {
         size: random.below(1 << 20) as u32,
         offset: random.below(1 << 39),
@@ -405,31 +407,39 @@ fn footers(random: &mut Random) {
             first: 1_000 * i,
             entries: 1_000,
             link: link(),
+            checksum: (version > 1).then_some(0x9E37_79B1 ^ i as u32),
             spare: 0,
         })
         .collect();
     let mut writer = Writer::default();
     writer.footer(&footer);
-    let footer = writer.bytes;
-    let mut tables = (vec![0; 1_024 * 4], vec![0; 64 * 2], [0; 2]);
-    let times = contest(
-        &mut tables,
-        &|(clusters, metadata, result)| {
-            assert_eq!(
-                calls::read_footer(&header, &footer, file_length, clusters, metadata, result),
-                0
-            );
-        },
-        &[("Rust", &|(clusters, metadata, result)| {
-            let (answer, words) = reference::read_footer(&header, &footer, file_length, clusters, metadata);
-            assert_eq!(answer, 0);
-            *result = words;
-        })],
-        8 * (1_024 * 4 + 64 * 2),
-    );
-    assert_eq!(tables.2, [1_024, 64]);
-    let bytes = header.len() + footer.len();
-    line("read footer, largest", gigabytes(bytes, times.ours), &times, true);
+    writer.bytes
+}
+
+fn footers(random: &mut Random) {
+    let header = smallest_header();
+    let file_length = 1 << 40;
+    for (name, version) in [("read footer, largest", 1), ("the same, version 2", 2)] {
+        let footer = largest_footer(random, &header, version);
+        let mut tables = (vec![0; 1_024 * CLUSTER_WORDS], vec![0; 64 * LINK_WORDS], [0; 2]);
+        let times = contest(
+            &mut tables,
+            &|(clusters, metadata, result)| {
+                assert_eq!(
+                    calls::read_footer(&header, &footer, file_length, clusters, metadata, result),
+                    0
+                );
+            },
+            &[("Rust", &|(clusters, metadata, result)| {
+                let (answer, words) = reference::read_footer(&header, &footer, file_length, clusters, metadata);
+                assert_eq!(answer, 0);
+                *result = words;
+            })],
+            8 * (1_024 * CLUSTER_WORDS + 64 * LINK_WORDS),
+        );
+        assert_eq!(tables.2, [1_024, 64]);
+        line(name, gigabytes(header.len() + footer.len(), times.ours), &times, true);
+    }
 }
 
 fn page_lists(random: &mut Random) {
@@ -472,25 +482,42 @@ fn page_lists(random: &mut Random) {
     writer.page_list(&list);
     let list = writer.bytes;
     let entries = 256 * 10_000;
-    let mut tables = (vec![0; 16_384 * 5], [0; 1]);
-    let times = contest(
-        &mut tables,
-        &|(pages, result)| {
-            assert_eq!(
-                calls::read_page_list(&header, &list, entries, file_length, pages, result),
-                0
-            );
-        },
-        &[("Rust", &|(pages, result)| {
-            let (answer, words) = reference::read_page_list(&header, &list, entries, file_length, pages);
-            assert_eq!(answer, 0);
-            *result = words;
-        })],
-        8 * 16_384 * 5,
-    );
-    assert_eq!(tables.1, [16_384]);
     let bytes = header.len() + list.len();
-    line("read page list, largest", gigabytes(bytes, times.ours), &times, true);
+    let words = 16_384 * PAGE_WORDS;
+    let mut tables = (vec![0; words], [0; 1]);
+    // By itself, for a row with its checksum, and for a row with another.
+    let own = u64::from(stored_checksum(&list));
+    for (name, row, due, count) in [
+        ("read page list, largest", None, 0, 16_384),
+        ("read paired page list", Some(own), 0, 16_384),
+        ("the same, stale", Some(own ^ 1), 3 * 256 + 26, 0),
+    ] {
+        let times = contest(
+            &mut tables,
+            &|(pages, result)| {
+                let answer = match row {
+                    None => calls::read_page_list(&header, &list, entries, file_length, pages, result),
+                    Some(checksum) => {
+                        calls::read_paired_page_list(&header, &list, entries, checksum, file_length, pages, result)
+                    }
+                };
+                assert_eq!(answer, due);
+            },
+            &[("Rust", &|(pages, result)| {
+                let (answer, words) = match row {
+                    None => reference::read_page_list(&header, &list, entries, file_length, pages),
+                    Some(checksum) => {
+                        reference::read_paired_page_list(&header, &list, entries, checksum, file_length, pages)
+                    }
+                };
+                assert_eq!(answer, due);
+                *result = words;
+            })],
+            8 * words,
+        );
+        assert_eq!(tables.1, [count]);
+        line(name, gigabytes(bytes, times.ours), &times, due == 0);
+    }
 }
 
 fn main() -> ExitCode {

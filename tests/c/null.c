@@ -1,4 +1,4 @@
-/* Null pointers with count 0: every call takes them wherever nothing need be read or written. */
+/* Null pointers with count 0: every call takes them wherever nothing need be read or written; and the constants of the header. */
 #include "rntuple_check.h"
 #include <stdio.h>
 #include <string.h>
@@ -68,6 +68,30 @@ static void page_lists(void) {
     same("page list without a result", rnt_read_page_list(NULL, 0, NULL, 0, 0, 0, NULL, 0, NULL, 0), RNT_RESULT_TOO_SHORT);
 }
 
+static void paired_page_lists(void) {
+    uint64_t result[1] = {9}, own = 0;
+    for (int i = 0; i < 4; i++) own |= (uint64_t)page_list[sizeof page_list - 4 + i] << 8 * i;
+    same("pairing, no header", rnt_read_paired_page_list(NULL, 0, page_list, sizeof page_list, 0, own ^ 1, 0, NULL, 0, result, 1), 256 + 2);
+    same("pairing, no page list", rnt_read_paired_page_list(header, sizeof header, NULL, 0, 0, 0, 0, NULL, 0, result, 1), 768 + 2);
+    same("pairing, no page list, its count", result[0], 0);
+    const uint64_t right[] = {own, RNT_NO_CHECKSUM};
+    const uint64_t wrong[] = {own ^ 1, own + RNT_NO_CHECKSUM, RNT_NO_CHECKSUM - 1, RNT_NO_CHECKSUM + 1, 0, UINT64_MAX};
+    for (size_t i = 0; i < sizeof right / sizeof *right; i++)
+        same("pairing without a table", rnt_read_paired_page_list(header, sizeof header, page_list, sizeof page_list, 0, right[i], 0, NULL, 0, result, 1), 0);
+    for (size_t i = 0; i < sizeof wrong / sizeof *wrong; i++) {
+        result[0] = 9;
+        same("pairing, another checksum", rnt_read_paired_page_list(header, sizeof header, page_list, sizeof page_list, 0, wrong[i], 0, NULL, 0, result, 1), 768 + 26);
+        same("pairing, another checksum, its count", result[0], 0);
+    }
+    same("pairing without a result", rnt_read_paired_page_list(NULL, 0, NULL, 0, 0, 0, 0, NULL, 0, NULL, 0), RNT_RESULT_TOO_SHORT);
+}
+
+static void constants(void) {
+    same("words of a cluster row", RNT_CLUSTER_WORDS, 5);
+    same("no checksum", RNT_NO_CHECKSUM, (uint64_t)UINT32_MAX + 1);
+    same("bytes of no checksum", sizeof RNT_NO_CHECKSUM, sizeof(uint64_t));
+}
+
 static void pages(void) {
     uint64_t result[1] = {9};
     same("decoding nothing", rnt_decode_page(0x14, 0, 0, NULL, 0, NULL, 0, 0), 0);
@@ -90,7 +114,9 @@ int main(void) {
     headers();
     footers();
     page_lists();
+    paired_page_lists();
     pages();
+    constants();
     printf("%d passed, %d failed\n", passed, failed);
     return failed != 0;
 }

@@ -42,6 +42,19 @@ mod c {
             result: *mut u64,
             result_words: usize,
         ) -> u32;
+        pub fn rnt_read_paired_page_list(
+            header: *const u8,
+            header_length: usize,
+            page_list: *const u8,
+            page_list_length: usize,
+            entries: u64,
+            checksum: u64,
+            file_length: u64,
+            pages: *mut u64,
+            page_words: usize,
+            result: *mut u64,
+            result_words: usize,
+        ) -> u32;
         pub fn rnt_decode_page(
             column_type: u32,
             elements: u64,
@@ -127,7 +140,7 @@ pub struct Footer<'a> {
 }
 
 /// Reads a footer under its header, for a file of this length, into lent
-/// tables, whose rows have 4 and 2 words.
+/// tables, whose rows have 5 and 2 words.
 pub fn read_footer<'a>(
     header: &[u8],
     footer: &[u8],
@@ -182,6 +195,38 @@ pub fn read_page_list<'a>(
             page_list.as_ptr(),
             page_list.len(),
             entries,
+            file_length,
+            pages.as_mut_ptr(),
+            pages.len(),
+            result.as_mut_ptr(),
+            result.len(),
+        )
+    })?;
+    Ok(PageList {
+        pages: Table::first(result[0], pages, &[]),
+    })
+}
+
+/// Reads the page list of a cluster, as [`read_page_list`] does with the
+/// cluster's entries. Where the cluster has a checksum, a page list with another
+/// one is refused, however right it is: it is not the one that the footer means.
+pub fn read_paired_page_list<'a>(
+    header: &[u8],
+    page_list: &[u8],
+    cluster: &Cluster,
+    file_length: u64,
+    pages: &'a mut [u64],
+) -> Result<PageList<'a>, Refusal> {
+    let mut result = [0; 1];
+    // SAFETY: see above.
+    accepted(unsafe {
+        c::rnt_read_paired_page_list(
+            header.as_ptr(),
+            header.len(),
+            page_list.as_ptr(),
+            page_list.len(),
+            cluster.entries,
+            cluster.checksum_word(),
             file_length,
             pages.as_mut_ptr(),
             pages.len(),

@@ -21,6 +21,27 @@
 //! # Ok::<(), rntuple_check::Refusal>(())
 //! ```
 //!
+//! A cluster of a footer says which page list it means, so that an old one does
+//! not pass for it:
+//!
+//! ```
+//! use rntuple_check::{FooterRoom, PageListRoom, Reason};
+//!
+//! let header = include_bytes!("../../../examples/fields.header");
+//! let footer = include_bytes!("../../../examples/paired.footer");
+//! let file_length = 4_096;
+//! let mut footer_room = FooterRoom::full();
+//! let cluster = footer_room.read(header, footer, file_length)?.clusters.get(0).unwrap();
+//!
+//! let mut room = PageListRoom::full();
+//! let list = include_bytes!("../../../examples/fields.pagelist");
+//! assert_eq!(room.read_paired(header, list, &cluster, file_length)?.pages.len(), 5);
+//! let stale = include_bytes!("../../../examples/stale.pagelist");
+//! let refusal = room.read_paired(header, stale, &cluster, file_length).unwrap_err();
+//! assert_eq!(refusal.reason, Reason::OtherPageList);
+//! # Ok::<(), rntuple_check::Refusal>(())
+//! ```
+//!
 //! What is proved is the library: its answers and all that it writes. This
 //! crate is tested. The rules are in `docs/PROFILE.md`.
 
@@ -30,7 +51,8 @@ mod room;
 mod rows;
 
 pub use calls::{
-    crc32, decode_page, encode_page, is_utf8, read_footer, read_header, read_page_list, Footer, Header, PageList,
+    crc32, decode_page, encode_page, is_utf8, read_footer, read_header, read_page_list, read_paired_page_list, Footer,
+    Header, PageList,
 };
 pub use refusal::{Envelope, Reason, Refusal};
 pub use room::{decode, encode, FooterRoom, HeaderRoom, PageListRoom};

@@ -61,7 +61,7 @@ reasons! {
     (2, EnvelopeTooShort, "envelope below 8 bytes"),
     (3, ChecksumDiffers, "checksum differs"),
     (4, MinimumWrong, "minimum version 0, or above the version"),
-    (5, MinimumNotRead, "minimum version above 1"),
+    (5, MinimumNotRead, "minimum version above 1, of a footer above 2"),
     (6, FeatureNotKnown, "feature bit set, other than bit 63"),
     (7, PastContainer, "number, string or frame runs past its container"),
     (8, FrameWrong, "wrong frame kind, size below its own head, reserved bits set"),
@@ -82,6 +82,7 @@ reasons! {
     (23, TypeNotRead, "column type unknown, or Switch"),
     (24, UnusedBitsSet, "unused bits of a Bit page set"),
     (25, ElementTooWide, "element to encode does not fit its width"),
+    (26, OtherPageList, "page list has another checksum than its cluster's row"),
 }
 
 impl Reason {

@@ -1,6 +1,8 @@
 //! Memory of full size: with it nothing is refused for want of room.
 
-use crate::calls::{decode_page, encode_page, read_footer, read_header, read_page_list, Footer, Header, PageList};
+use crate::calls::{
+    decode_page, encode_page, read_footer, read_header, read_page_list, read_paired_page_list, Footer, Header, PageList,
+};
 use crate::most;
 use crate::refusal::Refusal;
 use crate::rows::{Alias, Cluster, Column, Field, Link, Page, Row};
@@ -72,6 +74,17 @@ impl PageListRoom {
         file_length: u64,
     ) -> Result<PageList<'_>, Refusal> {
         read_page_list(header, page_list, entries, file_length, &mut self.pages)
+    }
+
+    /// See [`read_paired_page_list`].
+    pub fn read_paired(
+        &mut self,
+        header: &[u8],
+        page_list: &[u8],
+        cluster: &Cluster,
+        file_length: u64,
+    ) -> Result<PageList<'_>, Refusal> {
+        read_paired_page_list(header, page_list, cluster, file_length, &mut self.pages)
     }
 }
 

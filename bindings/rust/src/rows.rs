@@ -58,7 +58,19 @@ pub struct Cluster {
     pub first_entry: u64,
     pub entries: u64,
     pub page_list: Link,
+    /// That of its page list, where the footer carries it: from version 2 on.
+    pub checksum: Option<u32>,
 }
+
+impl Cluster {
+    /// The last word of its row.
+    pub(crate) fn checksum_word(&self) -> u64 {
+        self.checksum.map_or(NO_CHECKSUM, u64::from)
+    }
+}
+
+/// Stands for no checksum in a row: one more than a checksum can be.
+const NO_CHECKSUM: u64 = 1 << 32;
 
 #[derive(Clone, Copy, Debug, PartialEq, Eq)]
 pub struct Link {
@@ -140,13 +152,14 @@ impl<'a> Row<'a> for Link {
 }
 
 impl<'a> Row<'a> for Cluster {
-    const WORDS: usize = 4;
+    const WORDS: usize = 5;
 
     fn of(words: &[u64], envelope: &'a [u8]) -> Self {
         Cluster {
             first_entry: words[0],
             entries: words[1],
-            page_list: Link::of(&words[2..], envelope),
+            page_list: Link::of(&words[2..4], envelope),
+            checksum: (words[4] != NO_CHECKSUM).then_some(words[4] as u32),
         }
     }
 }

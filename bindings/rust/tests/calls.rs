@@ -1,14 +1,16 @@
 //! The calls from Rust: accepted, refused, too little room, pages both ways, and nothing lent.
 
 use rntuple_check::{
-    crc32, decode, decode_page, encode, encode_page, is_utf8, most, read_footer, read_header, read_page_list, Alias,
-    Cluster, Column, ColumnNumber, Envelope, FieldNumber, FooterRoom, HeaderRoom, Link, Page, PageListRoom, Reason,
-    Refusal,
+    crc32, decode, decode_page, encode, encode_page, is_utf8, most, read_footer, read_header, read_page_list,
+    read_paired_page_list, Alias, Cluster, Column, ColumnNumber, Envelope, FieldNumber, FooterRoom, HeaderRoom, Link,
+    Page, PageListRoom, Reason, Refusal,
 };
 
 const FIELDS: &[u8] = include_bytes!("../../../examples/fields.header");
 const FIELDS_FOOTER: &[u8] = include_bytes!("../../../examples/fields.footer");
 const FIELDS_PAGE_LIST: &[u8] = include_bytes!("../../../examples/fields.pagelist");
+const PAIRED_FOOTER: &[u8] = include_bytes!("../../../examples/paired.footer");
+const STALE_PAGE_LIST: &[u8] = include_bytes!("../../../examples/stale.pagelist");
 const NEWER: &[u8] = include_bytes!("../../../examples/newer.header");
 const DAMAGED: &[u8] = include_bytes!("../../../examples/damaged.header");
 const ALPHABETS: &[u8] = include_bytes!("../../../examples/alphabets.header");
@@ -24,8 +26,8 @@ fn refused(envelope: Envelope, reason: Reason) -> Refusal {
     Refusal { envelope, reason }
 }
 
-fn envelope(payload: &[u8]) -> Vec<u8> {
-    let mut bytes = [&[1, 0, 1, 0], payload].concat();
+fn envelope(version: u8, minimum: u8, payload: &[u8]) -> Vec<u8> {
+    let mut bytes = [&[version, 0, minimum, 0], payload].concat();
     let checksum = crc32(&bytes);
     bytes.extend(checksum.to_le_bytes());
     bytes
@@ -49,27 +51,43 @@ fn link(size: u32, offset: u64) -> Vec<u8> {
     [&size.to_le_bytes()[..], &locator(size, offset)].concat()
 }
 
-fn cluster(first: u64, entries: u64, link: Vec<u8>) -> Vec<u8> {
-    record(&[&first.to_le_bytes()[..], &entries.to_le_bytes(), &link].concat())
+fn cluster(first: u64, entries: u64, link: Vec<u8>, checksum: &[u8]) -> Vec<u8> {
+    record(&[&first.to_le_bytes()[..], &entries.to_le_bytes(), &link, checksum].concat())
 }
 
-/// A footer with two clusters and one metadata link, whose last range ends at byte 1,000 of the file.
-fn footer(header: &[u8]) -> Vec<u8> {
-    let clusters = [cluster(0, 3, link(10, 100)), cluster(3, 4, link(20, 980))];
+/// A footer with two clusters and one metadata link, whose last range ends at byte 1,000 of the file. Its clusters have these
+/// bytes for checksums.
+fn footer_of(header: &[u8], version: u8, minimum: u8, checksums: [&[u8]; 2]) -> Vec<u8> {
+    let clusters = [
+        cluster(0, 3, link(10, 100), checksums[0]),
+        cluster(3, 4, link(20, 980), checksums[1]),
+    ];
     let lists = [list(&[]), list(&[]), list(&clusters), list(&[link(5, 7)])].concat();
-    envelope(&[&[0; 8], &header[header.len() - 4..], &lists].concat())
+    envelope(
+        version,
+        minimum,
+        &[&[0; 8], &header[header.len() - 4..], &lists].concat(),
+    )
+}
+
+fn footer(header: &[u8]) -> Vec<u8> {
+    footer_of(header, 1, 1, [&[], &[]])
 }
 
 /// A page list for FIELDS, with three entries: 11, 0F, 1B and 10 are its columns' types.
 fn page_list() -> Vec<u8> {
     let page =
         |elements: u32, size: u32, offset: u64| [elements.to_le_bytes().to_vec(), locator(size, offset)].concat();
-    envelope(&list(&[
-        list(&[page(2, 8, 40), page(1, 4, 50)]),
-        list(&[page(3 | 1 << 30, 12, 60)]),
-        list(&[]),
-        list(&[page(9, 72, 928)]),
-    ]))
+    envelope(
+        1,
+        1,
+        &list(&[
+            list(&[page(2, 8, 40), page(1, 4, 50)]),
+            list(&[page(3 | 1 << 30, 12, 60)]),
+            list(&[]),
+            list(&[page(9, 72, 928)]),
+        ]),
+    )
 }
 
 #[test]
@@ -161,16 +179,20 @@ fn the_header_is_refused_first() {
     let header = refused(Envelope::Header, Reason::ChecksumDiffers);
     assert_eq!(FooterRoom::full().read(DAMAGED, b"", 0).unwrap_err(), header);
     assert_eq!(PageListRoom::full().read(DAMAGED, b"", 0, 0).unwrap_err(), header);
+    let paired = PageListRoom::full()
+        .read_paired(DAMAGED, b"", &row(0, Some(1)), 0)
+        .map(drop);
+    assert_eq!(paired, Err(header));
 }
 
 #[test]
 fn every_number_has_a_reason() {
-    assert_eq!(Reason::ALL.len(), 25);
+    assert_eq!(Reason::ALL.len(), 26);
     for (i, &reason) in Reason::ALL.iter().enumerate() {
         assert_eq!(usize::from(reason.number()), i + 1);
         assert_eq!(Reason::of(reason.number()), Some(reason));
     }
-    assert_eq!((Reason::of(0), Reason::of(26)), (None, None));
+    assert_eq!((Reason::of(0), Reason::of(27)), (None, None));
 }
 
 #[test]
@@ -196,13 +218,16 @@ fn too_little_room_is_refused_and_nothing_is_written() {
         assert_eq!(refusal, refused(Envelope::Header, Reason::RoomTooSmall));
         assert!(fields.iter().chain(&columns).chain(&aliases).all(|&word| word == OLD));
     }
-    let (mut clusters, mut metadata) = ([OLD; 7], [OLD; 2]);
+    let (mut clusters, mut metadata) = ([OLD; 9], [OLD; 2]);
     let refusal = read_footer(FIELDS, &footer(FIELDS), 1_000, &mut clusters, &mut metadata).unwrap_err();
     assert_eq!(refusal, refused(Envelope::Footer, Reason::RoomTooSmall));
-    assert_eq!((clusters, metadata), ([OLD; 7], [OLD; 2]));
+    assert_eq!((clusters, metadata), ([OLD; 9], [OLD; 2]));
     let mut pages = [OLD; 19];
+    let too_small = refused(Envelope::PageList, Reason::RoomTooSmall);
     let refusal = read_page_list(FIELDS, &page_list(), 3, 1_000, &mut pages).unwrap_err();
-    assert_eq!(refusal, refused(Envelope::PageList, Reason::RoomTooSmall));
+    assert_eq!(refusal, too_small);
+    let refusal = read_paired_page_list(FIELDS, &page_list(), &row(3, None), 1_000, &mut pages).unwrap_err();
+    assert_eq!(refusal, too_small);
     assert_eq!(pages, [OLD; 19]);
 }
 
@@ -211,17 +236,62 @@ fn a_footer_is_read() {
     let mut room = FooterRoom::full();
     let envelope = footer(FIELDS);
     let footer = room.read(FIELDS, &envelope, 1_000).unwrap();
-    let page_list = |size, offset| Link { size, offset };
-    let clusters =
-        [(0, 3, page_list(10, 100)), (3, 4, page_list(20, 980))].map(|(first_entry, entries, page_list)| Cluster {
-            first_entry,
-            entries,
-            page_list,
-        });
-    assert_eq!(footer.clusters.iter().collect::<Vec<_>>(), clusters);
-    assert_eq!(footer.metadata.iter().collect::<Vec<_>>(), [page_list(5, 7)]);
+    assert_eq!(footer.clusters.iter().collect::<Vec<_>>(), clusters([None, None]));
+    assert_eq!(
+        footer.metadata.iter().collect::<Vec<_>>(),
+        [Link { size: 5, offset: 7 }]
+    );
     let refusal = room.read(FIELDS, &envelope, 999).unwrap_err();
     assert_eq!(refusal, refused(Envelope::Footer, Reason::OutsideFile));
+}
+
+/// The rows of `footer_of`.
+fn clusters(checksums: [Option<u32>; 2]) -> [Cluster; 2] {
+    let page_list = |size, offset| Link { size, offset };
+    [
+        (0, 3, page_list(10, 100), checksums[0]),
+        (3, 4, page_list(20, 980), checksums[1]),
+    ]
+    .map(|(first_entry, entries, page_list, checksum)| Cluster {
+        first_entry,
+        entries,
+        page_list,
+        checksum,
+    })
+}
+
+#[test]
+fn a_footer_carries_checksums_from_version_2_on() {
+    let read = |version, minimum, checksums| {
+        let envelope = footer_of(FIELDS, version, minimum, checksums);
+        let mut room = FooterRoom::full();
+        let footer = room.read(FIELDS, &envelope, 1_000)?;
+        Ok(footer.clusters.iter().collect::<Vec<_>>())
+    };
+    let refused = |reason| Err(refused(Envelope::Footer, reason));
+    let some: [&[u8]; 2] = [&[0; 4], &[0xFF; 4]];
+    let rows = clusters([Some(0), Some(u32::MAX)]).to_vec();
+    for (version, minimum) in [(2, 1), (2, 2), (3, 2), (255, 1)] {
+        assert_eq!(read(version, minimum, some), Ok(rows.clone()));
+        assert_eq!(
+            read(version, minimum, [&[0; 4], &[0; 3]]),
+            refused(Reason::PastContainer)
+        );
+    }
+    assert_eq!(read(1, 1, some), refused(Reason::UnexplainedBytes));
+    assert_eq!(read(2, 2, [&[0; 5], &[0; 4]]), refused(Reason::UnexplainedBytes));
+    assert_eq!(read(3, 3, some), refused(Reason::MinimumNotRead));
+}
+
+/// A row with so many entries and this checksum.
+fn row(entries: u64, checksum: Option<u32>) -> Cluster {
+    let page_list = Link { size: 0, offset: 0 };
+    Cluster {
+        first_entry: 0,
+        entries,
+        page_list,
+        checksum,
+    }
 }
 
 #[test]
@@ -264,6 +334,51 @@ fn the_example_archive_hangs_together() {
     assert_eq!(list.pages.len(), 5);
     let hits = list.pages.iter().filter(|page| page.column == ColumnNumber(2));
     assert_eq!(hits.map(|page| page.elements).sum::<usize>(), 5);
+}
+
+#[test]
+fn a_stale_page_list_is_refused() {
+    let cluster = |footer| {
+        let mut room = FooterRoom::full();
+        let footer = room.read(FIELDS, footer, 4_096).unwrap();
+        footer.clusters.get(0).unwrap()
+    };
+    let (old_row, row) = (cluster(FIELDS_FOOTER), cluster(PAIRED_FOOTER));
+    let checksum = crc32(&FIELDS_PAGE_LIST[..FIELDS_PAGE_LIST.len() - 4]);
+    assert_eq!(row.checksum, Some(checksum));
+    assert_eq!(old_row, Cluster { checksum: None, ..row });
+
+    let mut room = PageListRoom::full();
+    let mut pages = |list, cluster| {
+        let list = room.read_paired(FIELDS, list, &cluster, 4_096)?;
+        Ok(list.pages.iter().collect::<Vec<_>>())
+    };
+    let (right, stale) = (
+        pages(FIELDS_PAGE_LIST, row).unwrap(),
+        pages(STALE_PAGE_LIST, old_row).unwrap(),
+    );
+    assert_eq!((right.len(), stale.len()), (5, 5));
+    assert_eq!(right[..4], stale[..4]);
+    assert_eq!((right[4].offset, stale[4].offset), (256, 384));
+    assert_eq!(pages(FIELDS_PAGE_LIST, old_row), Ok(right));
+    let refusal = refused(Envelope::PageList, Reason::OtherPageList);
+    assert_eq!(pages(STALE_PAGE_LIST, row), Err(refusal));
+    assert_eq!(
+        refusal.to_string(),
+        "page list refused 26: page list has another checksum than its cluster's row"
+    );
+    // The row's entries are the reader's.
+    let more = Cluster { entries: 4, ..row };
+    assert_eq!(
+        pages(FIELDS_PAGE_LIST, more),
+        Err(refused(Envelope::PageList, Reason::CountsDisagree))
+    );
+    assert_eq!(pages(STALE_PAGE_LIST, more), Err(refusal));
+    // A damaged list is refused for what it is, whatever the row has.
+    assert_eq!(
+        pages(&STALE_PAGE_LIST[..20], row),
+        Err(refused(Envelope::PageList, Reason::ChecksumDiffers))
+    );
 }
 
 #[test]
@@ -376,6 +491,11 @@ fn nothing_may_be_lent() {
     assert!(read_header(SMALLEST, &mut [], &mut [], &mut []).is_ok());
     assert!(read_footer(SMALLEST, SMALLEST_FOOTER, 0, &mut [], &mut []).is_ok());
     assert!(read_page_list(SMALLEST, SMALLEST_PAGE_LIST, 0, 0, &mut []).is_ok());
+    assert_eq!(
+        read_paired_page_list(SMALLEST, &[], &row(0, Some(0)), 0, &mut []).unwrap_err(),
+        too_short(Envelope::PageList)
+    );
+    assert!(read_paired_page_list(SMALLEST, SMALLEST_PAGE_LIST, &row(0, None), 0, &mut []).is_ok());
     for column_type in (1..=28).filter(|&column_type| column_type != 3) {
         assert!(decode_page(column_type, 0, false, &[], &mut [], 0).unwrap().is_empty());
         assert!(encode_page(column_type, 0, false, &[], 0, &mut []).unwrap().is_empty());

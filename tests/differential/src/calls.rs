@@ -47,6 +47,19 @@ mod exported {
             result: *mut u64,
             result_words: usize,
         ) -> u32;
+        pub fn rnt_read_paired_page_list(
+            header: *const u8,
+            header_length: usize,
+            page_list: *const u8,
+            page_list_length: usize,
+            entries: u64,
+            checksum: u64,
+            file_length: u64,
+            pages: *mut u64,
+            page_words: usize,
+            result: *mut u64,
+            result_words: usize,
+        ) -> u32;
         pub fn rnt_decode_page(
             column_type: u32,
             elements: u64,
@@ -156,6 +169,32 @@ mod exported {
                 from_raw_parts(header, header_length),
                 from_raw_parts(page_list, page_list_length),
                 entries,
+                file_length,
+                from_raw_parts_mut(pages, page_words),
+            )
+        })
+    }
+
+    #[allow(clippy::too_many_arguments)]
+    pub unsafe fn rnt_read_paired_page_list(
+        header: *const u8,
+        header_length: usize,
+        page_list: *const u8,
+        page_list_length: usize,
+        entries: u64,
+        checksum: u64,
+        file_length: u64,
+        pages: *mut u64,
+        page_words: usize,
+        result: *mut u64,
+        result_words: usize,
+    ) -> u32 {
+        answer(from_raw_parts_mut(result, result_words), || {
+            reference::read_paired_page_list(
+                from_raw_parts(header, header_length),
+                from_raw_parts(page_list, page_list_length),
+                entries,
+                checksum,
                 file_length,
                 from_raw_parts_mut(pages, page_words),
             )
@@ -279,6 +318,33 @@ pub fn read_page_list(
             page_list.as_ptr(),
             page_list.len(),
             entries,
+            file_length,
+            pages.as_mut_ptr(),
+            pages.len(),
+            result.as_mut_ptr(),
+            result.len(),
+        )
+    }
+}
+
+pub fn read_paired_page_list(
+    header: &[u8],
+    page_list: &[u8],
+    entries: u64,
+    checksum: u64,
+    file_length: u64,
+    pages: &mut [u64],
+    result: &mut [u64],
+) -> u32 {
+    // SAFETY: as above.
+    unsafe {
+        exported::rnt_read_paired_page_list(
+            header.as_ptr(),
+            header.len(),
+            page_list.as_ptr(),
+            page_list.len(),
+            entries,
+            checksum,
             file_length,
             pages.as_mut_ptr(),
             pages.len(),

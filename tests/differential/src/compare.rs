@@ -4,10 +4,12 @@
 use crate::calls;
 use crate::generate::envelopes::{FooterCase, HeaderCase, PageListCase};
 use crate::generate::pages::{CrcCase, DecodeCase, EncodeCase};
+use crate::generate::pairing::{PairingCase, RowOf};
 use crate::generate::strings::StringCase;
 use crate::generate::{Generator, Kind};
 use crate::reference::envelope::{is_string, ENVELOPE_CEILING};
 use crate::reference::{self, footer, header, page_list};
+use crate::writer::stored_checksum;
 use std::fmt::Write;
 
 /// Elements behind each lent room that nobody may write.
@@ -15,6 +17,13 @@ const GUARD: usize = 8;
 
 /// Bytes of each input in a report.
 const DUMPED: usize = 4_096;
+
+/// Where a cluster row has its entry count and its page list's checksum.
+const ENTRIES_WORD: usize = 1;
+const CHECKSUM_WORD: usize = 4;
+
+/// Numbers of refusals, 0 for acceptance among them.
+const NUMBERS: usize = 27;
 
 /// What lent memory holds before a call, so that each write shows.
 pub trait Cell: Copy + PartialEq + std::fmt::Debug {
@@ -113,17 +122,35 @@ impl Shelf {
     }
 }
 
+/// What is counted besides the answers, in the order of `NOTES`.
+#[derive(Clone, Copy)]
+enum Note {
+    Newer,
+    CarriesChecksums,
+    RowsChecksum,
+    FootersRow,
+    StaleForFootersRow,
+    Short,
+}
+
+/// The notes as a report has them.
+pub const NOTES: [&str; 6] = [
+    "of them also from a newer writer",
+    "of them with checksums of page lists",
+    "of them with the row's checksum",
+    "of them for a row of a footer",
+    "stale for a row of a footer",
+    "with too short a result",
+];
+
 /// How the cases of a kind went.
 #[derive(Clone)]
 pub struct Tally {
     pub cases: u64,
     pub accepted: u64,
-    /// Answers to a result that was too short.
-    pub short: u64,
     /// By envelope and number.
-    pub refused: [[u64; 26]; 5],
-    /// Accepted envelopes read again as a newer writer would have written them.
-    pub newer: u64,
+    pub refused: [[u64; NUMBERS]; 5],
+    pub notes: [u64; NOTES.len()],
 }
 
 impl Tally {
@@ -131,17 +158,20 @@ impl Tally {
         Tally {
             cases: 0,
             accepted: 0,
-            short: 0,
-            refused: [[0; 26]; 5],
-            newer: 0,
+            refused: [[0; NUMBERS]; 5],
+            notes: [0; NOTES.len()],
         }
+    }
+
+    fn note(&mut self, note: Note) {
+        self.notes[note as usize] += 1;
     }
 
     fn count(&mut self, answer: u32) {
         self.cases += 1;
         match answer {
             0 => self.accepted += 1,
-            calls::RESULT_TOO_SHORT => self.short += 1,
+            calls::RESULT_TOO_SHORT => self.note(Note::Short),
             _ => self.refused[(answer / 256) as usize][(answer % 256) as usize] += 1,
         }
     }
@@ -149,10 +179,10 @@ impl Tally {
     pub fn add(&mut self, other: &Tally) {
         self.cases += other.cases;
         self.accepted += other.accepted;
-        self.short += other.short;
-        self.newer += other.newer;
+        let add = |(count, other): (&mut u64, &u64)| *count += other;
+        self.notes.iter_mut().zip(&other.notes).for_each(add);
         for (row, other) in self.refused.iter_mut().zip(&other.refused) {
-            row.iter_mut().zip(other).for_each(|(count, other)| *count += other);
+            row.iter_mut().zip(other).for_each(add);
         }
     }
 }
@@ -218,9 +248,15 @@ impl Comparer {
             }
             Kind::PageList => {
                 let case = self.generator.page_list_case();
-                self.page_list(&case).map_err(|error| {
-                    let numbers = format!("entries {} file length {}\n", case.entries, case.file_length);
-                    error + &numbers + &dump("header", &case.header) + &dump("page list", &case.page_list)
+                let compared = self.page_list(&case, None).map(drop);
+                compared.map_err(|error| error + &dump_page_list(&case))
+            }
+            Kind::Pairing => {
+                let case = self.generator.pairing_case();
+                self.pairing(&case).map_err(|error| {
+                    let row = format!("row's checksum {:08X}\n", case.checksum);
+                    let footer = case.row_of.as_ref().map(|row_of| dump("footer", &row_of.footer));
+                    error + &row + &dump_page_list(&case.list) + &footer.unwrap_or_default()
                 })
             }
             Kind::Decode => {
@@ -347,7 +383,7 @@ impl Comparer {
 
     fn settle_newer(&mut self, same: bool, answer: u32, dump: String) -> Result<(), String> {
         if same {
-            self.tally.newer += 1;
+            self.tally.note(Note::Newer);
             return Ok(());
         }
         Err(format!(
@@ -394,31 +430,40 @@ impl Comparer {
             ];
         }
         self.settle(ours, theirs, 2, used)?;
-        let Some((newer_header, newer)) = case.newer.as_ref().filter(|_| ours == 0) else {
+        if ours == 0 && used[0] > 0 && self.tables[0].ours()[CHECKSUM_WORD] != footer::NO_CHECKSUM {
+            self.tally.note(Note::CarriesChecksums);
+        }
+        let Some(newer) = case.newer.as_ref().filter(|_| ours == 0) else {
             return Ok(());
         };
         let (mut clusters, mut metadata) = (vec![0; case.clusters], vec![0; case.metadata]);
         let mut result = vec![0; case.result];
         let answer = calls::read_footer(
-            newer_header,
-            newer,
+            &newer.header,
+            &newer.footer,
             case.file_length,
             &mut clusters,
             &mut metadata,
             &mut result,
         );
+        // The old rows, with the checksums that are written in the newer footer.
+        let mut due = self.tables[0].ours()[..used[0]].to_vec();
+        for (row, checksum) in due.chunks_exact_mut(footer::CLUSTER_WORDS).zip(&newer.checksums) {
+            row[CHECKSUM_WORD] = *checksum;
+        }
         let same = answer == 0
             && result[..2] == self.result.ours()[..2]
-            && clusters[..used[0]] == self.tables[0].ours()[..used[0]]
+            && clusters[..used[0]] == due
             && metadata[..used[1]] == self.tables[1].ours()[..used[1]];
         self.settle_newer(
             same,
             answer,
-            dump("newer header", newer_header) + &dump("newer footer", newer),
+            dump("newer header", &newer.header) + &dump("newer footer", &newer.footer),
         )
     }
 
-    fn page_list(&mut self, case: &PageListCase) -> Result<(), String> {
+    /// A page list by itself, or for a row with this checksum; gives the answer.
+    fn page_list(&mut self, case: &PageListCase, row: Option<u64>) -> Result<u32, String> {
         let seed = self.seed();
         self.tables[0].lend(case.pages, seed);
         self.tables[1].lend(0, seed ^ 1);
@@ -427,36 +472,64 @@ impl Comparer {
         let pages = &mut self.tables[0];
         let (header, list) = (&case.header, &case.page_list);
         let theirs = exported(self.result.reference(), || {
-            reference::read_page_list(header, list, case.entries, case.file_length, pages.reference())
+            let (entries, file_length, pages) = (case.entries, case.file_length, pages.reference());
+            match row {
+                None => reference::read_page_list(header, list, entries, file_length, pages),
+                Some(checksum) => reference::read_paired_page_list(header, list, entries, checksum, file_length, pages),
+            }
         });
         let result = self.result.ours();
         let [header_shelf, list_shelf] = &mut self.shelves;
         let (header, list) = (header_shelf.lend(header, seed), list_shelf.lend(list, seed >> 3));
-        let ours = calls::read_page_list(header, list, case.entries, case.file_length, pages.ours(), result);
+        let ours = library_page_list(case, header, list, row, pages.ours(), result);
         let used = if theirs == 0 {
             self.result.reference()[0] as usize * page_list::PAGE_WORDS
         } else {
             0
         };
         self.settle(ours, theirs, 1, [used, 0, 0])?;
+        if ours == 0 && row.is_some_and(|checksum| checksum != footer::NO_CHECKSUM) {
+            self.tally.note(Note::RowsChecksum);
+        }
         let Some((newer_header, newer)) = case.newer.as_ref().filter(|_| ours == 0) else {
-            return Ok(());
+            return Ok(ours);
         };
         let (mut pages, mut result) = (vec![0; case.pages], vec![0; case.result]);
-        let answer = calls::read_page_list(
-            newer_header,
-            newer,
-            case.entries,
-            case.file_length,
-            &mut pages,
-            &mut result,
-        );
+        // The row's copy of the checksum is put right, if it has one.
+        let newer_row = row.map(|checksum| match checksum {
+            footer::NO_CHECKSUM => checksum,
+            _ => u64::from(stored_checksum(newer)),
+        });
+        let answer = library_page_list(case, newer_header, newer, newer_row, &mut pages, &mut result);
         let same = answer == 0 && result[0] == self.result.ours()[0] && pages[..used] == self.tables[0].ours()[..used];
         self.settle_newer(
             same,
             answer,
             dump("newer header", newer_header) + &dump("newer page list", newer),
-        )
+        )?;
+        Ok(ours)
+    }
+
+    fn pairing(&mut self, case: &PairingCase) -> Result<(), String> {
+        if let Some(row_of) = &case.row_of {
+            let row = library_row(&case.list, row_of)?;
+            if row != (case.list.entries, case.checksum) {
+                return Err(format!(
+                    "the row has {} entries and the checksum {:08X}\n",
+                    row.0, row.1
+                ));
+            }
+        }
+        let answer = self.page_list(&case.list, Some(case.checksum))?;
+        match case.row_of.as_ref().map(|row_of| row_of.due) {
+            Some(due) if answer != due => {
+                return Err(format!("due: {}\nlibrary {}\n", name(due), name(answer)));
+            }
+            Some(0) => self.tally.note(Note::FootersRow),
+            Some(_) => self.tally.note(Note::StaleForFootersRow),
+            None => {}
+        }
+        Ok(())
     }
 
     fn decode(&mut self, case: &DecodeCase) -> Result<(), String> {
@@ -545,6 +618,43 @@ impl Default for Comparer {
     }
 }
 
+/// The library's answer to a page list by itself, or for a row with this checksum.
+fn library_page_list(
+    case: &PageListCase,
+    header: &[u8],
+    list: &[u8],
+    row: Option<u64>,
+    pages: &mut [u64],
+    result: &mut [u64],
+) -> u32 {
+    let PageListCase {
+        entries, file_length, ..
+    } = *case;
+    match row {
+        None => calls::read_page_list(header, list, entries, file_length, pages, result),
+        Some(checksum) => calls::read_paired_page_list(header, list, entries, checksum, file_length, pages, result),
+    }
+}
+
+/// Entries and checksum of the row that the library reads from a footer.
+fn library_row(list: &PageListCase, row_of: &RowOf) -> Result<(u64, u64), String> {
+    let mut clusters = vec![0; row_of.rows[0] * footer::CLUSTER_WORDS];
+    let mut metadata = vec![0; row_of.rows[1] * footer::LINK_WORDS];
+    let answer = calls::read_footer(
+        &list.header,
+        &row_of.footer,
+        list.file_length,
+        &mut clusters,
+        &mut metadata,
+        &mut [0; 2],
+    );
+    if answer != 0 {
+        return Err(format!("the footer: library {}\n", name(answer)));
+    }
+    let row = &clusters[row_of.cluster * footer::CLUSTER_WORDS..];
+    Ok((row[ENTRIES_WORD], row[CHECKSUM_WORD]))
+}
+
 /// An answer in words.
 fn name(answer: u32) -> String {
     match answer {
@@ -552,6 +662,11 @@ fn name(answer: u32) -> String {
         calls::RESULT_TOO_SHORT => "result too short".to_string(),
         _ => format!("refused {} {} ({answer})", answer / 256, answer % 256),
     }
+}
+
+fn dump_page_list(case: &PageListCase) -> String {
+    let numbers = format!("entries {} file length {}\n", case.entries, case.file_length);
+    numbers + &dump("header", &case.header) + &dump("page list", &case.page_list)
 }
 
 fn dump(name: &str, bytes: &[u8]) -> String {

@@ -6,13 +6,14 @@ pub mod edges;
 pub mod envelopes;
 pub mod models;
 pub mod pages;
+pub mod pairing;
 pub mod random;
 pub mod strings;
 
 use crate::writer::Writer;
 use random::Random;
 
-/// The seven kinds of cases.
+/// The eight kinds of cases.
 #[derive(Clone, Copy, Debug, PartialEq, Eq)]
 pub enum Kind {
     Header,
@@ -22,9 +23,10 @@ pub enum Kind {
     Encode,
     Crc,
     String,
+    Pairing,
 }
 
-pub const KINDS: [Kind; 7] = [
+pub const KINDS: [Kind; 8] = [
     Kind::Header,
     Kind::Footer,
     Kind::PageList,
@@ -32,6 +34,7 @@ pub const KINDS: [Kind; 7] = [
     Kind::Encode,
     Kind::Crc,
     Kind::String,
+    Kind::Pairing,
 ];
 
 impl Kind {
@@ -44,6 +47,7 @@ impl Kind {
             Kind::Encode => "encode",
             Kind::Crc => "crc",
             Kind::String => "string",
+            Kind::Pairing => "pairing",
         }
     }
 }

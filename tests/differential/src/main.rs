@@ -1,7 +1,7 @@
 //! Compares the library with the independent reference on seeded cases.
 
 use differential::calls;
-use differential::compare::{Comparer, Tally};
+use differential::compare::{Comparer, Tally, NOTES};
 use differential::generate::{Kind, KINDS};
 use std::cell::Cell;
 use std::process::ExitCode;
@@ -11,7 +11,7 @@ const HELP: &str = "\
 usage: differential N [SEED] [--threads T] [--only KIND] [--case NUMBER]
 
 Runs N cases of each kind (header, footer, page-list, decode, encode, crc,
-string) on the library and on the independent reference, and compares answers,
+string, pairing) on the library and on the independent reference, and compares answers,
 result words and every word of every lent room. SEED is 1 unless given.
 --threads T      at most 2 threads, 1 unless given
 --only KIND      that kind alone
@@ -133,14 +133,14 @@ fn run(options: &Options, kind: Kind) -> Result<Tally, String> {
 fn reachable(kind: Kind) -> Vec<(usize, usize)> {
     let header = (1..=15).map(|number| (1, number));
     let own = |envelope: usize, numbers: &[usize]| numbers.iter().map(|&number| (envelope, number)).collect::<Vec<_>>();
+    let page_list = [1, 2, 3, 4, 5, 7, 8, 10, 11, 12, 17, 18, 19, 20];
     match kind {
         Kind::Header => header.chain([(1, 20)]).collect(),
         Kind::Footer => header
             .chain(own(2, &[1, 2, 3, 4, 5, 6, 7, 8, 10, 11, 12, 16, 17, 18, 19, 20]))
             .collect(),
-        Kind::PageList => header
-            .chain(own(3, &[1, 2, 3, 4, 5, 7, 8, 10, 11, 12, 17, 18, 19, 20]))
-            .collect(),
+        Kind::PageList => header.chain(own(3, &page_list)).collect(),
+        Kind::Pairing => header.chain(own(3, &page_list)).chain([(3, 26)]).collect(),
         Kind::Decode => own(4, &[10, 20, 21, 22, 23, 24]),
         Kind::Encode => own(4, &[10, 20, 23, 25]),
         Kind::Crc => Vec::new(),
@@ -150,11 +150,8 @@ fn reachable(kind: Kind) -> Vec<(usize, usize)> {
 
 fn report(kind: Kind, tally: &Tally) {
     print!("{}: {} cases, {} accepted", kind.name(), tally.cases, tally.accepted);
-    if tally.newer > 0 {
-        print!(", {} of them also from a newer writer", tally.newer);
-    }
-    if tally.short > 0 {
-        print!(", {} with too short a result", tally.short);
+    for (note, count) in NOTES.iter().zip(tally.notes).filter(|(_, count)| *count > 0) {
+        print!(", {count} {note}");
     }
     println!();
     for (envelope, row) in tally.refused.iter().enumerate() {

@@ -70,7 +70,8 @@ pub fn read_footer(
     }
 }
 
-/// Reads a page list into a flat table, after its header.
+/// Reads a page list into a flat table, after its header: as for a row that
+/// has no checksum.
 pub fn read_page_list(
     header: &[u8],
     page_list: &[u8],
@@ -78,11 +79,23 @@ pub fn read_page_list(
     file_length: u64,
     pages: &mut [u64],
 ) -> (u32, [u64; 1]) {
+    read_paired_page_list(header, page_list, entries, footer::NO_CHECKSUM, file_length, pages)
+}
+
+/// Reads the page list of a cluster row into a flat table, after its header.
+pub fn read_paired_page_list(
+    header: &[u8],
+    page_list: &[u8],
+    entries: u64,
+    checksum: u64,
+    file_length: u64,
+    pages: &mut [u64],
+) -> (u32, [u64; 1]) {
     let header = match header::read(header) {
         Ok(header) => header,
         Err(number) => return (refusal(HEADER, number), [0; 1]),
     };
-    match page_list::read(&header, page_list, entries, file_length).and_then(|list| {
+    match page_list::read(&header, page_list, entries, checksum, file_length).and_then(|list| {
         page_list::store(&list, pages)?;
         Ok(list.len() as u64)
     }) {

@@ -2,7 +2,7 @@
 //! checksums, and remembers where each number stands, so that damage can be
 //! aimed.
 
-use crate::reference::crc::crc32;
+use crate::reference::crc::{crc32, POLYNOMIAL};
 
 /// What stands at a place of an envelope.
 #[derive(Clone, Copy, Debug, PartialEq, Eq)]
@@ -28,6 +28,7 @@ pub enum Part {
     AliasColumn,
     AliasField,
     HeaderChecksum,
+    ListChecksum,
     FirstEntry,
     EntryCount,
     LinkSize,
@@ -138,6 +139,8 @@ pub struct Cluster {
     pub first: u64,
     pub entries: u64,
     pub link: Link,
+    /// That of its page list, as footers of version 2 and above carry it.
+    pub checksum: Option<u32>,
     pub spare: usize,
 }
 
@@ -175,6 +178,28 @@ pub fn seal(envelope: &mut [u8]) {
         let checksum = crc32(&envelope[..content]);
         envelope[content..].copy_from_slice(&checksum.to_le_bytes());
     }
+}
+
+/// Makes version 2 of an envelope, with four more bytes at the end of its
+/// payload that give it this checksum.
+pub fn force_checksum(envelope: &mut Vec<u8>, checksum: u32) {
+    let Some(end) = envelope.len().checked_sub(4).filter(|&end| end >= 4) else {
+        return;
+    };
+    envelope[..2].copy_from_slice(&2u16.to_le_bytes());
+    // The register has to be this before 32 steps without input; four bytes
+    // of input are a difference to it at their start.
+    let mut due = !checksum;
+    for _ in 0..32 {
+        due = match due >> 31 {
+            1 => (due ^ POLYNOMIAL) << 1 | 1,
+            _ => due << 1,
+        };
+    }
+    let register = !crc32(&envelope[..end]);
+    envelope.truncate(end);
+    envelope.extend_from_slice(&(register ^ due).to_le_bytes());
+    envelope.extend_from_slice(&checksum.to_le_bytes());
 }
 
 /// The checksum at the end of an envelope, 0 when it has none.
@@ -350,6 +375,9 @@ impl Writer {
                             writer.u64(Part::FirstEntry, cluster.first);
                             writer.u64(Part::EntryCount, cluster.entries);
                             writer.link(&cluster.link);
+                            if let Some(checksum) = cluster.checksum {
+                                writer.u32(Part::ListChecksum, checksum);
+                            }
                         });
                     }
                 },

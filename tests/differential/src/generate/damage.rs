@@ -63,7 +63,7 @@ fn near(random: &mut Random, old: u64) -> u64 {
 }
 
 /// Numbers that have rules, in groups that are aimed at equally often.
-const AIMS: [&[Part]; 16] = [
+const AIMS: [&[Part]; 17] = [
     &[Part::Feature],
     &[Part::StringLength],
     &[Part::ListCount],
@@ -74,6 +74,7 @@ const AIMS: [&[Part]; 16] = [
     &[Part::ColumnFlags],
     &[Part::AliasColumn, Part::AliasField],
     &[Part::HeaderChecksum],
+    &[Part::ListChecksum],
     &[Part::EmptyCount],
     &[Part::FirstEntry],
     &[Part::EntryCount],
@@ -112,7 +113,7 @@ fn wrong(random: &mut Random, old: u64, part: Part) -> u64 {
         (Part::ColumnFlags, _) => old | 1 << (3 + random.below(29)),
         (Part::Bits, 0 | 1) => near(random, old),
         (Part::ColumnType | Part::Bits, _) => random.below(40),
-        (Part::HeaderChecksum, _) => old ^ 1 << random.below(32),
+        (Part::HeaderChecksum | Part::ListChecksum, _) => old ^ 1 << random.below(32),
         (Part::EmptyCount, 0) => 1 << random.below(32),
         (Part::EmptyCount, 1) => random.below(1 << 28),
         (Part::EmptyCount, _) => 1,
@@ -133,15 +134,20 @@ fn wrong(random: &mut Random, old: u64, part: Part) -> u64 {
     }
 }
 
-/// A wrong number that is also the last of its container: whether it is
-/// refused before what is missing behind it shows the order of checks.
-fn wrong_and_last(random: &mut Random, writer: &mut Writer) -> bool {
+/// A number that is the last of its container, and most often wrong: whether
+/// it is refused before what is missing behind it shows the order of checks.
+/// At times its own last bytes are missing too.
+fn last(random: &mut Random, writer: &mut Writer) -> bool {
     let Some(mark) = aim(random, writer) else {
         return false;
     };
-    let number = wrong(random, get(writer, mark), mark.part);
-    set(writer, mark, number);
-    let end = mark.place + mark.width + if random.one_in(3) { random.index(4) } else { 0 };
+    let end = if random.one_in(4) {
+        mark.place + random.index(mark.width)
+    } else {
+        let number = wrong(random, get(writer, mark), mark.part);
+        set(writer, mark, number);
+        mark.place + mark.width + if random.one_in(3) { random.index(4) } else { 0 }
+    };
     let around = |head: &&Mark| frame_size(head.part) && head.place < mark.place;
     match writer.marks.iter().rev().find(around).copied() {
         Some(head) if head.part == Part::RecordSize => set(writer, head, (end - head.place) as u64),
@@ -167,7 +173,7 @@ fn once(random: &mut Random, writer: &mut Writer) -> bool {
             }
             None => false,
         },
-        11..=14 => wrong_and_last(random, writer),
+        11..=14 => last(random, writer),
         15 => {
             let at = random.index(writer.bytes.len().max(1));
             cut(random, writer, at)
@@ -273,7 +279,11 @@ fn versions(random: &mut Random, writer: &mut Writer) -> bool {
         (3, 2),
         (2, 3),
         (2, 1),
+        (3, 1),
+        (3, 3),
+        (4, 3),
         (u16::MAX, 1),
+        (u16::MAX, 2),
         (u16::MAX, u16::MAX),
         (256, 256),
         (1, 256),

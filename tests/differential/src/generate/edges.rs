@@ -5,7 +5,10 @@ use super::random::Random;
 use crate::reference::envelope::ENVELOPE_CEILING;
 use crate::writer::*;
 
-const MOST_ENTRIES: u64 = (1 << 60) - 1;
+pub const MOST_ENTRIES: u64 = (1 << 60) - 1;
+
+/// So many edge cases `page_list` has.
+pub const PAGE_LISTS: u64 = 12;
 
 fn fields(random: &mut Random, parents: Vec<u32>) -> Vec<Field> {
     parents
@@ -117,6 +120,12 @@ pub fn footer(random: &mut Random, place: u64, header_checksum: u32) -> Option<(
         header_checksum,
         ..Default::default()
     };
+    let outside = &mut footer.outside;
+    (outside.version, outside.minimum) = match place {
+        7 | 8 => (2, 1),
+        _ => random.pick(&[(1, 1), (2, 1), (2, 2)]),
+    };
+    let checksums = models::carries_checksums(outside);
     let mut file_length = 1 << 40;
     let link = |random: &mut Random| Link {
         size: 1_000,
@@ -125,6 +134,7 @@ pub fn footer(random: &mut Random, place: u64, header_checksum: u32) -> Option<(
     let cluster = |random: &mut Random| Cluster {
         entries: random.below(1 << 40),
         link: link(random),
+        checksum: checksums.then(|| random.number() as u32),
         ..Default::default()
     };
     let (clusters, metadata) = match place {
@@ -151,7 +161,6 @@ pub fn footer(random: &mut Random, place: u64, header_checksum: u32) -> Option<(
     }
     match place {
         7 | 8 => {
-            footer.outside.version = 2;
             let mut writer = Writer::default();
             writer.footer(&footer);
             footer.metadata.spare = ENVELOPE_CEILING - writer.bytes.len() + (place - 7) as usize;
@@ -185,7 +194,7 @@ pub fn page_list(random: &mut Random, place: u64) -> Option<(Header, PageList, u
         5 => (1_025, 0),
         6 => (3, 16_384),
         7 => (3, 16_385),
-        8 => (2, 5),
+        8 | 11 => (2, 5),
         _ => return None,
     };
     // Repetitive fields have no totals to keep.
@@ -212,11 +221,12 @@ pub fn page_list(random: &mut Random, place: u64) -> Option<(Header, PageList, u
     }
     let mut entries = random.next();
     match place {
-        8 => {
+        // As long as an envelope may be, and one byte longer.
+        8 | 11 => {
             list.outside.version = 2;
             let mut writer = Writer::default();
             writer.page_list(&list);
-            list.columns.spare = ENVELOPE_CEILING - writer.bytes.len();
+            list.columns.spare = ENVELOPE_CEILING - writer.bytes.len() + usize::from(place == 11);
         }
         // The largest total there can be, kept and missed by one.
         9 | 10 => {

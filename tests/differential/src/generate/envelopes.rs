@@ -4,7 +4,7 @@ use super::damage::damage;
 use super::{edges, models, Generator};
 use crate::reference::envelope::ENVELOPE_CEILING;
 use crate::reference::{footer, header, page_list};
-use crate::writer::{stored_checksum, Footer, Header, PageList};
+use crate::writer::{stored_checksum, Cluster, Footer, Header, PageList};
 
 /// Sizes of lent rooms are in words.
 pub struct HeaderCase {
@@ -24,17 +24,32 @@ pub struct FooterCase {
     pub clusters: usize,
     pub metadata: usize,
     pub result: usize,
-    pub newer: Option<(Vec<u8>, Vec<u8>)>,
+    pub newer: Option<NewerFooter>,
+}
+
+pub struct NewerFooter {
+    pub header: Vec<u8>,
+    pub footer: Vec<u8>,
+    /// What its rows have in the one word that may differ: the checksums of
+    /// the page lists.
+    pub checksums: Vec<u64>,
 }
 
 pub struct PageListCase {
     pub header: Vec<u8>,
     pub page_list: Vec<u8>,
+    /// The checksum that it had before damage.
+    pub undamaged: u32,
     pub entries: u64,
     pub file_length: u64,
     pub pages: usize,
     pub result: usize,
     pub newer: Option<(Vec<u8>, Vec<u8>)>,
+}
+
+/// The last word of the row that a cluster record is read into.
+pub(super) fn row_checksum(cluster: &Cluster) -> u64 {
+    cluster.checksum.map_or(footer::NO_CHECKSUM, u64::from)
 }
 
 impl Generator {
@@ -75,7 +90,10 @@ impl Generator {
         let whole = edge.is_none();
         let (mut model, mut file_length) = edge.unwrap_or_else(|| models::footer(&mut self.random, checksum));
         let lone = self.lone_spare(whole);
-        if lone {
+        let amiss = lone && self.random.one_in(3);
+        if amiss {
+            models::one_checksum_amiss(&mut self.random, &mut model);
+        } else if lone {
             models::one_spare_in_footer(&mut self.random, &mut model);
         }
         let spoilt = whole && !lone && self.random.below(8) < 5;
@@ -83,7 +101,7 @@ impl Generator {
         if whole && self.random.one_in(10) {
             file_length = self.other_number(file_length);
         }
-        let newer = (whole && !spoilt && !spoilt_header && self.random.one_in(3)).then(|| {
+        let newer = (whole && !spoilt && !amiss && !spoilt_header && self.random.one_in(3)).then(|| {
             let newer_header = match self.random.one_in(3) {
                 true => header_bytes.clone(),
                 false => {
@@ -96,7 +114,12 @@ impl Generator {
                 false => models::newer_footer(&mut self.random, &model),
             };
             newer.header_checksum = stored_checksum(&newer_header);
-            (newer_header, self.footer_bytes(&newer, false))
+            let clusters = newer.clusters.items.iter();
+            NewerFooter {
+                header: newer_header,
+                footer: self.footer_bytes(&newer, false),
+                checksums: clusters.map(row_checksum).collect(),
+            }
         });
         FooterCase {
             header: header_bytes,
@@ -118,7 +141,12 @@ impl Generator {
     }
 
     pub fn page_list_case(&mut self) -> PageListCase {
-        let edge = edges::page_list(&mut self.random, self.place);
+        self.page_list_at(self.place)
+    }
+
+    /// An edge case, where there is one with this number.
+    pub(super) fn page_list_at(&mut self, edge: u64) -> PageListCase {
+        let edge = edges::page_list(&mut self.random, edge);
         let whole = edge.is_none();
         let (header, mut model, mut entries, mut file_length) = edge.unwrap_or_else(|| {
             let header = models::header(&mut self.random);
@@ -132,7 +160,9 @@ impl Generator {
         let spoilt_header = whole && self.random.one_in(12);
         let spoilt = whole && !lone && self.random.below(8) < 5;
         let header_bytes = self.header_bytes(&header, spoilt_header);
-        let page_list = self.page_list_bytes(&model, spoilt);
+        self.writer.page_list(&model);
+        let undamaged = stored_checksum(&self.writer.bytes);
+        let page_list = self.finish(spoilt);
         if whole && self.random.one_in(12) {
             entries = self.other_number(entries);
         }
@@ -152,6 +182,7 @@ impl Generator {
         PageListCase {
             header: header_bytes,
             page_list,
+            undamaged,
             entries,
             file_length,
             pages: self.room(rows, page_list::PAGE_WORDS, page_list::PAGES),
@@ -170,12 +201,12 @@ impl Generator {
         self.finish(spoilt)
     }
 
-    fn footer_bytes(&mut self, model: &Footer, spoilt: bool) -> Vec<u8> {
+    pub(super) fn footer_bytes(&mut self, model: &Footer, spoilt: bool) -> Vec<u8> {
         self.writer.footer(model);
         self.finish(spoilt)
     }
 
-    fn page_list_bytes(&mut self, model: &PageList, spoilt: bool) -> Vec<u8> {
+    pub(super) fn page_list_bytes(&mut self, model: &PageList, spoilt: bool) -> Vec<u8> {
         self.writer.page_list(model);
         self.finish(spoilt)
     }

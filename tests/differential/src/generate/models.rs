@@ -4,16 +4,18 @@ use super::random::Random;
 use crate::reference::pages::stored_bits;
 use crate::writer::*;
 
-/// Sometimes a newer version, which may have spare bytes.
-fn outside(random: &mut Random, spare: &mut Spare, features: bool) -> Outside {
+/// Sometimes a newer version, which may have spare bytes. Minimum versions go
+/// up to `supported`.
+fn outside(random: &mut Random, spare: &mut Spare, features: bool, supported: u16) -> Outside {
     let version = match random.below(8) {
         0..=4 => 1,
         5 => 2,
         6 => u16::MAX,
         _ => 2 + random.below(5) as u16,
     };
+    let minimum = 1 + random.below(u64::from(supported.min(version))) as u16;
     // Spare bytes in some frames, in most of them, or in none.
-    *spare = Spare(if version > 1 { random.pick(&[0, 2, 10]) } else { 0 });
+    *spare = Spare(if version > minimum { random.pick(&[0, 2, 10]) } else { 0 });
     let redundant = if features && random.one_in(6) {
         1 + random.index(3)
     } else {
@@ -21,7 +23,7 @@ fn outside(random: &mut Random, spare: &mut Spare, features: bool) -> Outside {
     };
     Outside {
         version,
-        minimum: 1,
+        minimum,
         redundant,
         spare: spare.count(random),
     }
@@ -132,7 +134,7 @@ pub fn column(random: &mut Random, fields: usize) -> Column {
 
 pub fn header(random: &mut Random) -> Header {
     let mut spare = Spare(0);
-    let outside = outside(random, &mut spare, true);
+    let outside = outside(random, &mut spare, true, 1);
     let fields = count(random);
     let chain = random.one_in(8);
     let mut parents = parents(random, fields, chain);
@@ -233,16 +235,23 @@ fn link_size(random: &mut Random) -> u32 {
     }
 }
 
+/// Whether the cluster records of such a footer have the checksums of their
+/// page lists.
+pub fn carries_checksums(outside: &Outside) -> bool {
+    outside.version >= 2
+}
+
 /// Gives the footer and the file length.
 pub fn footer(random: &mut Random, header_checksum: u32) -> (Footer, u64) {
     let mut spare = Spare(0);
-    let outside = outside(random, &mut spare, true);
+    let outside = outside(random, &mut spare, true, 2);
     let mut clusters: Vec<Cluster> = (0..count(random))
         .map(|_| Cluster {
             link: Link {
                 size: link_size(random),
                 offset: 0,
             },
+            checksum: carries_checksums(&outside).then(|| random.number() as u32),
             spare: spare.count(random),
             ..Default::default()
         })
@@ -339,7 +348,7 @@ fn pages(random: &mut Random, bits: u16, mut elements: u64) -> Vec<Page> {
 /// Gives the page list, the entries and the file length.
 pub fn page_list(random: &mut Random, header: &Header) -> (PageList, u64, u64) {
     let mut spare = Spare(0);
-    let outside = outside(random, &mut spare, false);
+    let outside = outside(random, &mut spare, false, 1);
     let entries = match random.below(16) {
         0 => random.below(1 << 30),
         1 => 0,
@@ -399,6 +408,19 @@ pub fn one_spare_in_footer(random: &mut Random, footer: &mut Footer) {
     one_spare(random, spares);
 }
 
+/// One cluster record without the checksum that is due, or with one that is
+/// not.
+pub fn one_checksum_amiss(random: &mut Random, footer: &mut Footer) {
+    let clusters = &mut footer.clusters.items;
+    if !clusters.is_empty() {
+        let at = random.index(clusters.len());
+        clusters[at].checksum = match clusters[at].checksum {
+            Some(_) => None,
+            None => Some(random.number() as u32),
+        };
+    }
+}
+
 pub fn one_spare_in_page_list(random: &mut Random, page_list: &mut PageList) {
     let mut spares = vec![&mut page_list.outside.spare, &mut page_list.columns.spare];
     spares.extend(page_list.columns.items.iter_mut().map(|list| &mut list.spare));
@@ -451,12 +473,39 @@ pub fn newer_footer(random: &mut Random, footer: &Footer) -> Footer {
     newer.empty_spare.iter_mut().for_each(|spare| more(random, spare));
     more(random, &mut newer.clusters.spare);
     more(random, &mut newer.metadata.spare);
+    for cluster in &mut newer.clusters.items {
+        more(random, &mut cluster.spare);
+        // A footer that carries no checksums yet gets them with its new version.
+        cluster.checksum = cluster.checksum.or_else(|| Some(random.number() as u32));
+    }
     newer
-        .clusters
+}
+
+/// A page list with the same counts, for a file of the same length, that is
+/// not the same bytes: a page stands elsewhere, or only the version differs
+/// where no page can.
+pub fn stale_page_list(random: &mut Random, page_list: &PageList, file_length: u64) -> PageList {
+    let mut stale = page_list.clone();
+    let mut movable: Vec<&mut Page> = stale
+        .columns
         .items
         .iter_mut()
-        .for_each(|cluster| more(random, &mut cluster.spare));
-    newer
+        .flat_map(|list| &mut list.items)
+        .filter(|page| page.bytes() < file_length)
+        .collect();
+    if movable.is_empty() {
+        let version = &mut stale.outside.version;
+        *version = version.checked_add(1).unwrap_or(2);
+        return stale;
+    }
+    let at = random.index(movable.len());
+    let page = &mut movable[at];
+    let old = page.offset;
+    page.offset = offset(random, page.bytes(), file_length);
+    if page.offset == old {
+        page.offset = if old == 0 { 1 } else { old - 1 };
+    }
+    stale
 }
 
 pub fn newer_page_list(random: &mut Random, page_list: &PageList) -> PageList {

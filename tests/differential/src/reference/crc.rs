@@ -1,6 +1,6 @@
 //! The reflected CRC-32 with polynomial EDB88320, sixteen bytes at a time.
 
-const POLYNOMIAL: u32 = 0xEDB8_8320;
+pub const POLYNOMIAL: u32 = 0xEDB8_8320;
 const SLICES: usize = 16;
 
 /// `TABLES[k][b]` is what byte `b` contributes when `k` more bytes follow it.

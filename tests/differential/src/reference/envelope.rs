@@ -5,8 +5,16 @@ use super::Number;
 
 pub const ENVELOPE_CEILING: usize = 1_048_576;
 
-/// An opened envelope: its payload, its checksum, nothing read yet.
+/// An envelope of a right size with a right checksum, its versions not judged.
+pub struct Intact<'a> {
+    /// All bytes before the checksum.
+    content: &'a [u8],
+    pub checksum: u32,
+}
+
+/// An opened envelope: nothing of its payload is read yet.
 pub struct Envelope<'a> {
+    pub version: u16,
     pub payload: Container<'a>,
     pub checksum: u32,
 }
@@ -28,8 +36,8 @@ pub struct Container<'a> {
     exact: bool,
 }
 
-/// Opens an envelope: size, checksum, versions.
-pub fn open(bytes: &[u8]) -> Result<Envelope<'_>, Number> {
+/// Size and checksum of an envelope.
+pub fn intact(bytes: &[u8]) -> Result<Intact<'_>, Number> {
     if bytes.len() > ENVELOPE_CEILING {
         return Err(1);
     }
@@ -41,22 +49,31 @@ pub fn open(bytes: &[u8]) -> Result<Envelope<'_>, Number> {
     if crc32(content) != checksum {
         return Err(3);
     }
-    let version = u16::from_le_bytes([content[0], content[1]]);
-    let minimum = u16::from_le_bytes([content[2], content[3]]);
-    if minimum == 0 || minimum > version {
-        return Err(4);
+    Ok(Intact { content, checksum })
+}
+
+impl<'a> Intact<'a> {
+    /// The versions, of which minimum versions up to `supported` are read.
+    pub fn open(self, supported: u16) -> Result<Envelope<'a>, Number> {
+        let Intact { content, checksum } = self;
+        let version = u16::from_le_bytes([content[0], content[1]]);
+        let minimum = u16::from_le_bytes([content[2], content[3]]);
+        if minimum == 0 || minimum > version {
+            return Err(4);
+        }
+        if minimum > supported {
+            return Err(5);
+        }
+        Ok(Envelope {
+            version,
+            payload: Container {
+                bytes: content,
+                at: 4,
+                exact: version == minimum,
+            },
+            checksum,
+        })
     }
-    if minimum > 1 {
-        return Err(5);
-    }
-    Ok(Envelope {
-        payload: Container {
-            bytes: content,
-            at: 4,
-            exact: version == minimum,
-        },
-        checksum,
-    })
 }
 
 /// Bytes that a string may have: well-formed UTF-8.

@@ -1,14 +1,23 @@
 //! Footers: clusters and metadata links.
 
-use super::envelope::{open, Container};
+use super::envelope::{intact, Container};
 use super::header::Header;
 use super::Number;
+
+/// The highest minimum version that is read.
+const SUPPORTED: u16 = 2;
+
+/// Footers from this version on carry the checksums of page lists.
+const CHECKSUMS: u16 = 2;
 
 pub const CLUSTERS: u32 = 1_024;
 pub const METADATA: u32 = 64;
 
-pub const CLUSTER_WORDS: usize = 4;
+pub const CLUSTER_WORDS: usize = 5;
 pub const LINK_WORDS: usize = 2;
+
+/// In a row, where the footer carries no checksum of the page list.
+pub const NO_CHECKSUM: u64 = 1 << 32;
 
 const MOST_ENTRIES: u64 = (1 << 60) - 1;
 
@@ -17,6 +26,8 @@ pub struct Cluster {
     pub first: u64,
     pub entries: u64,
     pub link: Link,
+    /// That of its page list, if the footer carries it.
+    pub checksum: Option<u32>,
 }
 
 #[derive(Clone, Copy)]
@@ -31,7 +42,9 @@ pub struct Footer {
 }
 
 pub fn read(header: &Header, bytes: &[u8], file_length: u64) -> Result<Footer, Number> {
-    let mut payload = open(bytes)?.payload;
+    let envelope = intact(bytes)?.open(SUPPORTED)?;
+    let checksums = envelope.version >= CHECKSUMS;
+    let mut payload = envelope.payload;
     payload.features()?;
     if payload.u32()? != header.checksum {
         return Err(16);
@@ -49,7 +62,7 @@ pub fn read(header: &Header, bytes: &[u8], file_length: u64) -> Result<Footer, N
     let mut clusters = Vec::with_capacity(count as usize);
     let mut sum = 0;
     for _ in 0..count {
-        let cluster = cluster(list.record()?, sum, file_length)?;
+        let cluster = cluster(list.record()?, sum, file_length, checksums)?;
         sum += cluster.entries;
         clusters.push(cluster);
     }
@@ -72,7 +85,7 @@ fn link(container: &mut Container, file_length: u64) -> Result<Link, Number> {
 }
 
 /// A cluster after earlier ones with `sum` entries.
-fn cluster(mut record: Container, sum: u64, file_length: u64) -> Result<Cluster, Number> {
+fn cluster(mut record: Container, sum: u64, file_length: u64, checksums: bool) -> Result<Cluster, Number> {
     let first = record.u64()?;
     if first != sum {
         return Err(19);
@@ -89,11 +102,13 @@ fn cluster(mut record: Container, sum: u64, file_length: u64) -> Result<Cluster,
         return Err(19);
     }
     let link = link(&mut record, file_length)?;
+    let checksum = if checksums { Some(record.u32()?) } else { None };
     record.finish()?;
     Ok(Cluster {
         first,
         entries: word,
         link,
+        checksum,
     })
 }
 
@@ -108,6 +123,7 @@ impl Footer {
                 cluster.entries,
                 u64::from(cluster.link.size),
                 cluster.link.offset,
+                cluster.checksum.map_or(NO_CHECKSUM, u64::from),
             ]);
         }
         for (row, link) in metadata.chunks_exact_mut(LINK_WORDS).zip(&self.metadata) {

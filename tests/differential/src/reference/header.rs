@@ -1,8 +1,11 @@
 //! Headers: fields, columns and aliases.
 
-use super::envelope::{open, Container, Text};
+use super::envelope::{intact, Container, Text};
 use super::pages::stored_bits;
 use super::Number;
+
+/// The highest minimum version that is read.
+const SUPPORTED: u16 = 1;
 
 pub const FIELDS: u32 = 512;
 pub const COLUMNS: u32 = 1_024;
@@ -54,7 +57,7 @@ pub struct Header {
 }
 
 pub fn read(bytes: &[u8]) -> Result<Header, Number> {
-    let mut envelope = open(bytes)?;
+    let mut envelope = intact(bytes)?.open(SUPPORTED)?;
     let payload = &mut envelope.payload;
     payload.features()?;
     let name = payload.string()?;

@@ -37,21 +37,22 @@ fn header_answer(envelope: &[u8]) -> u32 {
     .0
 }
 
-fn footer_answer(footer: &writer::Footer, file_length: u64) -> u32 {
+/// The answer to a footer of the smallest header, and the rows of its clusters.
+fn footer_rows(footer: &writer::Footer, file_length: u64) -> (u32, Vec<[u64; 5]>) {
     let header = smallest_header();
     let footer = writer::Footer {
         header_checksum: stored_checksum(&header),
         ..footer.clone()
     };
     let footer = footer_bytes(&footer);
-    read_footer(
-        &header,
-        &footer,
-        file_length,
-        &mut vec![0; 1024 * 4],
-        &mut vec![0; 64 * 2],
-    )
-    .0
+    let mut clusters = vec![0; 1024 * 5];
+    let (answer, [count, _]) = read_footer(&header, &footer, file_length, &mut clusters, &mut vec![0; 64 * 2]);
+    let rows = clusters.chunks_exact(5).take(count as usize);
+    (answer, rows.map(|row| row.try_into().expect("5 words")).collect())
+}
+
+fn footer_answer(footer: &writer::Footer, file_length: u64) -> u32 {
+    footer_rows(footer, file_length).0
 }
 
 fn page_list_answer(header: &writer::Header, list: &writer::PageList, entries: u64, file_length: u64) -> u32 {
@@ -484,6 +485,197 @@ fn entry_counts() {
     }
 }
 
+/// The checksum of its page list stands in a cluster record from version 2 on.
+#[test]
+fn checksums_in_footers() {
+    const NONE: u64 = footer::NO_CHECKSUM;
+    let footer = |version, minimum, checksum, spare| {
+        let mut footer = writer::Footer::default();
+        (footer.outside.version, footer.outside.minimum) = (version, minimum);
+        footer.clusters.items = vec![writer::Cluster {
+            entries: 7,
+            link: writer::Link { size: 20, offset: 80 },
+            checksum,
+            spare,
+            ..Default::default()
+        }];
+        footer_rows(&footer, 100)
+    };
+    let accepted = |checksum| (0, vec![[0, 7, 20, 80, checksum]]);
+    let refused = |number| (refusal(FOOTER, number), Vec::new());
+    assert_eq!(footer(1, 1, None, 0), accepted(NONE));
+    assert_eq!(footer(2, 1, Some(5), 0), accepted(5));
+    assert_eq!(footer(2, 2, Some(0), 0), accepted(0));
+    assert_eq!(footer(3, 2, Some(u32::MAX), 0), accepted(NONE - 1));
+    assert_eq!(footer(u16::MAX, 1, Some(5), 0), accepted(5));
+    // Missing, whole or in part; the minimum does not matter.
+    for (version, minimum) in [(2, 1), (2, 2), (3, 1), (3, 2), (u16::MAX, 1)] {
+        for bytes in 0..4 {
+            assert_eq!(footer(version, minimum, None, bytes), refused(7));
+        }
+    }
+    // In version 1 its bytes are unexplained.
+    assert_eq!(footer(1, 1, Some(5), 0), refused(11));
+    // Behind it, while version equals minimum and after that.
+    assert_eq!(footer(2, 2, Some(5), 1), refused(11));
+    assert_eq!(footer(2, 1, Some(5), 1), accepted(5));
+    assert_eq!(footer(3, 2, Some(5), 9), accepted(5));
+    // Minimum versions.
+    assert_eq!(footer(3, 3, Some(5), 0), refused(5));
+    assert_eq!(footer(4, 3, Some(5), 0), refused(5));
+    assert_eq!(footer(1, 2, Some(5), 0), refused(4));
+    assert_eq!(footer(2, 0, Some(5), 0), refused(4));
+
+    // Every record has its own, and 7 is given at the first that lacks it.
+    let cluster = |checksum| writer::Cluster {
+        checksum,
+        ..Default::default()
+    };
+    let mut footer = writer::Footer::default();
+    footer.outside.version = 2;
+    footer.clusters.items = vec![cluster(Some(1)), cluster(Some(2))];
+    let rows = vec![[0, 0, 0, 0, 1], [0, 0, 0, 0, 2]];
+    assert_eq!(footer_rows(&footer, 0), (0, rows));
+    footer.clusters.items[1].checksum = None;
+    assert_eq!(footer_rows(&footer, 0), refused(7));
+    footer.clusters.items[1].first = 1;
+    assert_eq!(footer_rows(&footer, 0), refused(19));
+    footer.clusters.items[0].checksum = None;
+    assert_eq!(footer_rows(&footer, 0), refused(7));
+    footer.clusters.items.clear();
+    assert_eq!(footer_rows(&footer, 0), (0, Vec::new()));
+}
+
+/// The row's checksum decides before all but the header and 1 to 3.
+#[test]
+fn pairing() {
+    const NONE: u64 = footer::NO_CHECKSUM;
+    let header = header_bytes(&fields(&[0]));
+    let mut list = writer::PageList::default();
+    let bytes = page_list_bytes(&list);
+    let own = u64::from(stored_checksum(&bytes));
+    let answer = |header: &[u8], list: &[u8], checksum| {
+        let (answer, count) = read_paired_page_list(header, list, 0, checksum, 0, &mut []);
+        assert_eq!(count, [0]);
+        answer
+    };
+    let paired = |list: &[u8], checksum| answer(&header, list, checksum);
+    let refused = |number| refusal(PAGE_LIST, number);
+
+    assert_eq!(paired(&bytes, own), 0);
+    assert_eq!(paired(&bytes, NONE), 0);
+    let mut others = vec![0, NONE - 1, NONE + 1, own + NONE, u64::MAX];
+    others.extend((0..64).map(|bit| own ^ 1 << bit));
+    for other in others {
+        assert_eq!(paired(&bytes, other), refused(26), "{other:08X}");
+    }
+
+    // Lists whose own checksum is at an end of its range.
+    for own in [0, u32::MAX] {
+        let mut bytes = bytes.clone();
+        writer::force_checksum(&mut bytes, own);
+        assert_eq!(crc32(&bytes[..bytes.len() - 4]), own);
+        let own = u64::from(own);
+        assert_eq!(paired(&bytes, own), 0);
+        assert_eq!(paired(&bytes, NONE), 0);
+        for other in [own ^ 0xFFFF_FFFF, own ^ 1, NONE + 1, own + 2 * NONE] {
+            assert_eq!(paired(&bytes, other), refused(26), "{other:08X}");
+        }
+    }
+
+    // After the header, and after 1 to 3.
+    assert_eq!(answer(&[], &bytes, own ^ 1), refusal(HEADER, 2));
+    assert_eq!(
+        answer(&header_bytes(&fields(&[1, 0])), &bytes, own ^ 1),
+        refusal(HEADER, 15)
+    );
+    assert_eq!(paired(&vec![0; 1_048_577], own), refused(1));
+    assert_eq!(paired(&bytes[..7], own), refused(2));
+    let mut damaged = bytes.clone();
+    damaged[4] ^= 1;
+    assert_eq!(paired(&damaged, own), refused(3));
+    assert_eq!(paired(&damaged, own ^ 1), refused(3));
+
+    // Before 4, 5 and the payload: the row's own checksum shows what is left.
+    list.outside.minimum = 0;
+    let minimum_0 = page_list_bytes(&list);
+    (list.outside.version, list.outside.minimum) = (2, 2);
+    let minimum_2 = page_list_bytes(&list);
+    list = writer::PageList::default();
+    list.outside.spare = 1;
+    let spare = page_list_bytes(&list);
+    list.outside.spare = 0;
+    list.columns.items = vec![writer::List::default()];
+    let columns = page_list_bytes(&list);
+    for (list, number) in [(minimum_0, 4), (minimum_2, 5), (spare, 11), (columns, 19)] {
+        let own = u64::from(stored_checksum(&list));
+        assert_eq!(paired(&list, own ^ 1), refused(26));
+        assert_eq!(paired(&list, own), refused(number));
+        assert_eq!(paired(&list, NONE), refused(number));
+    }
+}
+
+/// A stale page list has the same counts, and the reader accepts it by itself.
+#[test]
+fn stale_page_lists() {
+    let mut header = fields(&[0]);
+    header.columns.items = vec![writer::Column {
+        column_type: 0x11,
+        bits: 32,
+        ..Default::default()
+    }];
+    let header = header_bytes(&header);
+    let list = |offset| {
+        let mut list = writer::PageList::default();
+        let page = writer::Page {
+            elements: 5,
+            size: 20,
+            offset,
+            ..Default::default()
+        };
+        list.columns.items = vec![writer::List {
+            items: vec![page],
+            spare: 0,
+        }];
+        page_list_bytes(&list)
+    };
+    let (right, stale) = (list(40), list(60));
+    let mut row = [0; 5];
+    for (version, due) in [(1, 0), (2, refusal(PAGE_LIST, 26))] {
+        let mut footer = writer::Footer {
+            header_checksum: stored_checksum(&header),
+            ..Default::default()
+        };
+        footer.outside.version = version;
+        footer.clusters.items = vec![writer::Cluster {
+            entries: 5,
+            checksum: (version > 1).then(|| stored_checksum(&right)),
+            ..Default::default()
+        }];
+        let footer = footer_bytes(&footer);
+        assert_eq!(read_footer(&header, &footer, 100, &mut row, &mut []), (0, [1, 0]));
+        let paired = |list: &[u8]| {
+            let mut pages = [3; 5];
+            let (answer, _) = read_paired_page_list(&header, list, row[1], row[4], 100, &mut pages);
+            (answer, pages)
+        };
+        assert_eq!(read_page_list(&header, &stale, row[1], 100, &mut [0; 5]), (0, [1]));
+        assert_eq!(paired(&right), (0, [0, 5, 0, 20, 40]));
+        assert_eq!(paired(&stale).0, due);
+        if due != 0 {
+            assert_eq!(paired(&stale).1, [3; 5]);
+        }
+        // Counts and room are judged after it.
+        let answer =
+            |list: &[u8], entries, room: &mut [u64]| read_paired_page_list(&header, list, entries, row[4], 100, room).0;
+        assert_eq!(answer(&right, 6, &mut [0; 5]), refusal(PAGE_LIST, 19));
+        assert_eq!(answer(&right, 5, &mut [0; 4]), refusal(PAGE_LIST, 20));
+        if due != 0 {
+            assert_eq!(answer(&stale, 6, &mut [0; 4]), due);
+        }
+    }
+}
+
 #[test]
 fn page_list_totals() {
     let mut header = fields(&[0, 0]);
@@ -576,6 +768,27 @@ fn examples() {
         header_answer(include_bytes!("../../../../examples/damaged.header")),
         256 + 3
     );
+
+    let header = include_bytes!("../../../../examples/fields.header");
+    let footer_row = |footer: &[u8]| {
+        let mut row = [0; 5];
+        assert_eq!(read_footer(header, footer, 4_096, &mut row, &mut [0; 2]), (0, [1, 1]));
+        row
+    };
+    let row = footer_row(include_bytes!("../../../../examples/paired.footer"));
+    let old_row = footer_row(include_bytes!("../../../../examples/fields.footer"));
+    assert_eq!(
+        (old_row[..4].to_vec(), old_row[4]),
+        (row[..4].to_vec(), footer::NO_CHECKSUM)
+    );
+    let right = include_bytes!("../../../../examples/fields.pagelist");
+    let stale = include_bytes!("../../../../examples/stale.pagelist");
+    let paired = |list: &[u8], row: [u64; 5]| read_paired_page_list(header, list, row[1], row[4], 4_096, &mut [0; 25]);
+    assert_eq!(paired(right, row), (0, [5]));
+    assert_eq!(paired(stale, row), (refusal(PAGE_LIST, 26), [0]));
+    assert_eq!(paired(right, old_row), (0, [5]));
+    assert_eq!(paired(stale, old_row), (0, [5]));
+
     let alphabets = read(include_bytes!("../../../../examples/alphabets.header"));
     assert_eq!((alphabets.0, &alphabets.1[..]), (0, &[3, 3, 0][..]));
     assert_eq!(alphabets.2[2], "энергия".as_bytes());

@@ -1,9 +1,13 @@
 //! Page lists: the pages of every column in one cluster.
 
-use super::envelope::open;
+use super::envelope::intact;
+use super::footer::NO_CHECKSUM;
 use super::header::{Header, ALIAS, COLUMNS, REPETITIVE};
 use super::pages::stored_bits;
 use super::Number;
+
+/// The highest minimum version that is read.
+const SUPPORTED: u16 = 1;
 
 pub const PAGES: usize = 16_384;
 
@@ -18,8 +22,14 @@ pub struct Page {
     pub offset: u64,
 }
 
-pub fn read(header: &Header, bytes: &[u8], entries: u64, file_length: u64) -> Result<Vec<Page>, Number> {
-    let mut payload = open(bytes)?.payload;
+/// Reads a page list for a cluster row with these entries and this checksum,
+/// which is compared as soon as the list's own is known to be right.
+pub fn read(header: &Header, bytes: &[u8], entries: u64, checksum: u64, file_length: u64) -> Result<Vec<Page>, Number> {
+    let envelope = intact(bytes)?;
+    if checksum != NO_CHECKSUM && checksum != u64::from(envelope.checksum) {
+        return Err(26);
+    }
+    let mut payload = envelope.open(SUPPORTED)?.payload;
     let (mut columns, count) = payload.list_up_to(COLUMNS)?;
     if count as usize != header.columns.len() {
         return Err(19);
