@@ -86,18 +86,28 @@ def flipped(content, place):
 
 FIELDS_HEADER = fields_header(1, b"")
 
-# Three entries with five hits in all, in a file of 4,096 bytes: its pages, then its page list.
-FIELDS_PAGE_LIST = envelope(items([
-    items([page(3, 32, 64, checksum=True)]),
-    items([page(3, 32, 128)]),
-    items([page(2, 32, 192), page(3, 32, 200)]),
-    items([page(9, 64, 256)]),
-]))
 
-FIELDS_FOOTER = envelope(
-    FEATURES + FIELDS_HEADER[-4:] + items([]) * 2
-    + items([record(struct.pack("<QQ", 0, 3) + link(len(FIELDS_PAGE_LIST), 512))])
-    + items([link(16, 4080)]))
+def fields_page_list(positions):
+    """Three entries with five hits in all, in a file of 4,096 bytes; the
+    positions' page stands at the given place."""
+    return envelope(items([
+        items([page(3, 32, 64, checksum=True)]),
+        items([page(3, 32, 128)]),
+        items([page(2, 32, 192), page(3, 32, 200)]),
+        items([page(9, 64, positions)]),
+    ]))
+
+
+FIELDS_PAGE_LIST = fields_page_list(256)
+
+
+def fields_footer(version, checksum):
+    """One cluster, whose page list stands at byte 512. From version 2 on the
+    cluster record ends with the page list's checksum."""
+    cluster = record(struct.pack("<QQ", 0, 3) + link(len(FIELDS_PAGE_LIST), 512) + checksum)
+    return envelope(
+        FEATURES + FIELDS_HEADER[-4:] + items([]) * 2 + items([cluster]) + items([link(16, 4080)]),
+        version)
 
 
 def alphabets_header(name):
@@ -113,8 +123,10 @@ EXAMPLES = {
     "smallest.footer": SMALLEST_FOOTER,
     "smallest.pagelist": SMALLEST_PAGE_LIST,
     "fields.header": FIELDS_HEADER,
-    "fields.footer": FIELDS_FOOTER,
+    "fields.footer": fields_footer(1, b""),
     "fields.pagelist": FIELDS_PAGE_LIST,
+    "paired.footer": fields_footer(2, FIELDS_PAGE_LIST[-4:]),
+    "stale.pagelist": fields_page_list(384),
     "newer.header": fields_header(2, b"new"),
     "damaged.header": flipped(FIELDS_HEADER, 16),
     "alphabets.header": alphabets_header("энергия"),
