@@ -111,6 +111,22 @@ uint32_t rnt_read_header(const uint8_t *envelope, size_t envelope_length,
                          uint64_t *result, size_t result_words);
 
 /*
+ * Counts the moves from the fields of a header to their tops: one from a field
+ * to its parent, one more to the parent's parent, and so on up to the first
+ * field that is its own parent. A field that is its own parent makes none.
+ *
+ * No table is lent, so that 20 is never given: a header is accepted exactly
+ * when rnt_read_header accepts it with room enough for its rows. Refusals have
+ * envelope 1.
+ *
+ * Result, 1 word: the sum of the moves of all fields. With n fields it is at
+ * most n * (n - 1) / 2, which is 130,816 for 512; a chain of all fields has so
+ * many.
+ */
+uint32_t rnt_parent_moves(const uint8_t *header, size_t header_length,
+                          uint64_t *result, size_t result_words);
+
+/*
  * Reads a footer under its header, for a file of the given length. Refusals
  * have envelope 1 where the header is refused, else 2.
  *
