@@ -22,6 +22,7 @@ mod exported {
             result: *mut u64,
             result_words: usize,
         ) -> u32;
+        pub fn rnt_parent_moves(header: *const u8, header_length: usize, result: *mut u64, result_words: usize) -> u32;
         pub fn rnt_read_footer(
             header: *const u8,
             header_length: usize,
@@ -123,6 +124,17 @@ mod exported {
                 from_raw_parts_mut(columns, column_words),
                 from_raw_parts_mut(aliases, alias_words),
             )
+        })
+    }
+
+    pub unsafe fn rnt_parent_moves(
+        header: *const u8,
+        header_length: usize,
+        result: *mut u64,
+        result_words: usize,
+    ) -> u32 {
+        answer(from_raw_parts_mut(result, result_words), || {
+            reference::parent_moves(from_raw_parts(header, header_length))
         })
     }
 
@@ -274,6 +286,11 @@ pub fn read_header(
             result.len(),
         )
     }
+}
+
+pub fn parent_moves(header: &[u8], result: &mut [u64]) -> u32 {
+    // SAFETY: as above.
+    unsafe { exported::rnt_parent_moves(header.as_ptr(), header.len(), result.as_mut_ptr(), result.len()) }
 }
 
 pub fn read_footer(

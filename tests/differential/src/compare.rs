@@ -3,6 +3,7 @@
 
 use crate::calls;
 use crate::generate::envelopes::{FooterCase, HeaderCase, PageListCase};
+use crate::generate::moves::{MovesCase, MOST_MOVES};
 use crate::generate::pages::{CrcCase, DecodeCase, EncodeCase};
 use crate::generate::pairing::{PairingCase, RowOf};
 use crate::generate::strings::StringCase;
@@ -130,16 +131,20 @@ enum Note {
     RowsChecksum,
     FootersRow,
     StaleForFootersRow,
+    ShapeTells,
+    MostMoves,
     Short,
 }
 
 /// The notes as a report has them.
-pub const NOTES: [&str; 6] = [
+pub const NOTES: [&str; 8] = [
     "of them also from a newer writer",
     "of them with checksums of page lists",
     "of them with the row's checksum",
     "of them for a row of a footer",
     "stale for a row of a footer",
+    "of them with moves that the shape tells",
+    "of them with as many moves as there can be",
     "with too short a result",
 ];
 
@@ -203,9 +208,14 @@ fn exported<const N: usize>(result: &mut [u64], call: impl FnOnce() -> (u32, [u6
     answer
 }
 
+/// A call that counts moves: a header and the lent result.
+pub type MovesCall = fn(&[u8], &mut [u64]) -> u32;
+
 pub struct Comparer {
     pub generator: Generator,
     pub tally: Tally,
+    /// The library's, or one that is wrong, to see that it is found.
+    pub parent_moves: MovesCall,
     /// Fields, clusters or pages, columns or metadata, and aliases.
     tables: [Lent<u64>; 3],
     result: Lent<u64>,
@@ -218,6 +228,7 @@ impl Comparer {
         Comparer {
             generator: Generator::new(),
             tally: Tally::new(),
+            parent_moves: calls::parent_moves,
             tables: [Lent::new(), Lent::new(), Lent::new()],
             result: Lent::new(),
             page: Lent::new(),
@@ -258,6 +269,11 @@ impl Comparer {
                     let footer = case.row_of.as_ref().map(|row_of| dump("footer", &row_of.footer));
                     error + &row + &dump_page_list(&case.list) + &footer.unwrap_or_default()
                 })
+            }
+            Kind::Moves => {
+                let case = self.generator.moves_case();
+                self.moves(&case)
+                    .map_err(|error| error + &dump("header", &case.envelope))
             }
             Kind::Decode => {
                 let case = self.generator.decode_case();
@@ -530,6 +546,36 @@ impl Comparer {
             None => {}
         }
         Ok(())
+    }
+
+    fn moves(&mut self, case: &MovesCase) -> Result<(), String> {
+        let seed = self.seed();
+        self.tables.iter_mut().for_each(|table| table.lend(0, seed));
+        self.result.lend(case.result, seed);
+        let theirs = exported(self.result.reference(), || reference::parent_moves(&case.envelope));
+        let envelope = self.shelves[0].lend(&case.envelope, seed);
+        let ours = (self.parent_moves)(envelope, self.result.ours());
+        self.settle(ours, theirs, 1, [0; 3])?;
+        let short = ours == calls::RESULT_TOO_SHORT;
+        if let Some(due) = case.due.filter(|_| !short) {
+            if (ours, self.result.ours()[0]) != (0, due) {
+                return Err(format!("due: {due} moves\nlibrary {}\n", name(ours)));
+            }
+            self.tally.note(Note::ShapeTells);
+        }
+        if ours != 0 {
+            return Ok(());
+        }
+        let moves = self.result.ours()[0];
+        if moves == MOST_MOVES {
+            self.tally.note(Note::MostMoves);
+        }
+        let Some(newer) = &case.newer else {
+            return Ok(());
+        };
+        let mut result = [!moves];
+        let answer = (self.parent_moves)(newer, &mut result);
+        self.settle_newer((answer, result) == (0, [moves]), answer, dump("newer header", newer))
     }
 
     fn decode(&mut self, case: &DecodeCase) -> Result<(), String> {

@@ -5,6 +5,7 @@ pub mod damage;
 pub mod edges;
 pub mod envelopes;
 pub mod models;
+pub mod moves;
 pub mod pages;
 pub mod pairing;
 pub mod random;
@@ -13,7 +14,7 @@ pub mod strings;
 use crate::writer::Writer;
 use random::Random;
 
-/// The eight kinds of cases.
+/// The nine kinds of cases.
 #[derive(Clone, Copy, Debug, PartialEq, Eq)]
 pub enum Kind {
     Header,
@@ -24,9 +25,10 @@ pub enum Kind {
     Crc,
     String,
     Pairing,
+    Moves,
 }
 
-pub const KINDS: [Kind; 8] = [
+pub const KINDS: [Kind; 9] = [
     Kind::Header,
     Kind::Footer,
     Kind::PageList,
@@ -35,6 +37,7 @@ pub const KINDS: [Kind; 8] = [
     Kind::Crc,
     Kind::String,
     Kind::Pairing,
+    Kind::Moves,
 ];
 
 impl Kind {
@@ -48,6 +51,7 @@ impl Kind {
             Kind::Crc => "crc",
             Kind::String => "string",
             Kind::Pairing => "pairing",
+            Kind::Moves => "moves",
         }
     }
 }

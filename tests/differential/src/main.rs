@@ -11,8 +11,8 @@ const HELP: &str = "\
 usage: differential N [SEED] [--threads T] [--only KIND] [--case NUMBER]
 
 Runs N cases of each kind (header, footer, page-list, decode, encode, crc,
-string, pairing) on the library and on the independent reference, and compares answers,
-result words and every word of every lent room. SEED is 1 unless given.
+string, pairing, moves) on the library and on the independent reference, and compares
+answers, result words and every word of every lent room. SEED is 1 unless given.
 --threads T      at most 2 threads, 1 unless given
 --only KIND      that kind alone
 --case NUMBER    that case alone, of each kind or of the one named
@@ -136,6 +136,7 @@ fn reachable(kind: Kind) -> Vec<(usize, usize)> {
     let page_list = [1, 2, 3, 4, 5, 7, 8, 10, 11, 12, 17, 18, 19, 20];
     match kind {
         Kind::Header => header.chain([(1, 20)]).collect(),
+        Kind::Moves => header.collect(),
         Kind::Footer => header
             .chain(own(2, &[1, 2, 3, 4, 5, 6, 7, 8, 10, 11, 12, 16, 17, 18, 19, 20]))
             .collect(),

@@ -49,6 +49,15 @@ pub fn read_header(envelope: &[u8], fields: &mut [u64], columns: &mut [u64], ali
     }
 }
 
+/// The moves of all fields of a header to their tops. There is no room that
+/// could be too small.
+pub fn parent_moves(header: &[u8]) -> (u32, [u64; 1]) {
+    match header::read(header) {
+        Err(number) => (refusal(HEADER, number), [0]),
+        Ok(header) => (ACCEPTED, [header.moves()]),
+    }
+}
+
 /// Reads a footer into flat tables, after its header.
 pub fn read_footer(
     header: &[u8],

@@ -7,6 +7,9 @@ use crate::writer::*;
 
 pub const MOST_ENTRIES: u64 = (1 << 60) - 1;
 
+/// So many edge cases `header` has.
+pub const HEADERS: u64 = 18;
+
 /// So many edge cases `page_list` has.
 pub const PAGE_LISTS: u64 = 12;
 

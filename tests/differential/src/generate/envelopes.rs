@@ -192,7 +192,7 @@ impl Generator {
     }
 
     /// Whether the case is about spare bytes of one container alone.
-    fn lone_spare(&mut self, whole: bool) -> bool {
+    pub(super) fn lone_spare(&mut self, whole: bool) -> bool {
         whole && self.random.one_in(20)
     }
 

@@ -208,6 +208,20 @@ fn mark_dark(fields: &mut [Field], columns: &[Column]) {
 }
 
 impl Header {
+    /// The moves from each field to its self-parented top, all of them
+    /// together: every chain is walked by itself, from its field on.
+    pub fn moves(&self) -> u64 {
+        let mut moves = 0;
+        for first in 0..self.fields.len() {
+            let mut at = first;
+            while self.fields[at].parent as usize != at {
+                at = self.fields[at].parent as usize;
+                moves += 1;
+            }
+        }
+        moves
+    }
+
     pub fn store(&self, fields: &mut [u64], columns: &mut [u64], aliases: &mut [u64]) -> Result<(), Number> {
         if fields.len() / FIELD_WORDS < self.fields.len()
             || columns.len() / COLUMN_WORDS < self.columns.len()

@@ -122,6 +122,59 @@ fn check_value_of_the_checksum() {
     }
 }
 
+/// Moves from field to parent, up to the top, of all fields.
+#[test]
+fn moves() {
+    let of = |parents: &[u32]| parent_moves(&header_bytes(&fields(parents)));
+    let accepted = |moves| (ACCEPTED, [moves]);
+    let refused = |number| (refusal(HEADER, number), [0]);
+    for (parents, moves) in [
+        (&[][..], 0),
+        (&[0], 0),
+        (&[0, 1], 0),
+        (&[0, 0], 1),
+        (&[1, 1], 1),
+        (&[0, 0, 0], 2),
+        (&[0, 0, 1], 3),
+        (&[1, 2, 2], 3),
+        (&[2, 0, 2], 3),
+        (&[0, 0, 2, 2], 2),
+        (&[3, 3, 1, 3], 4),
+        (&[1, 2, 3, 4, 4], 10),
+        (&[4, 4, 0, 0, 4, 1], 8),
+    ] {
+        assert_eq!(of(parents), accepted(moves), "{parents:?}");
+    }
+    for (parents, number) in [(&[1, 0][..], 15), (&[1], 14), (&[0, 2, 1], 15), (&[0, 0, 3], 14)] {
+        assert_eq!(of(parents), refused(number), "{parents:?}");
+    }
+
+    // A chain of all fields has as many as there can be, in whatever order.
+    for count in 1..=512u32 {
+        let most = u64::from(count * (count - 1) / 2);
+        let rising: Vec<u32> = (0..count).map(|i| i.saturating_sub(1)).collect();
+        let falling: Vec<u32> = (0..count).map(|i| (i + 1).min(count - 1)).collect();
+        assert_eq!((of(&rising), of(&falling)), (accepted(most), accepted(most)));
+    }
+    assert_eq!(
+        of(&(0..512).map(|i: u32| i.saturating_sub(1)).collect::<Vec<_>>()).1,
+        [130_816]
+    );
+    assert_eq!(of(&[511; 512]), accepted(511));
+    assert_eq!(of(&(0..512).collect::<Vec<_>>()), accepted(0));
+    assert_eq!(of(&(0..512).map(|i| (i + 1) % 512).collect::<Vec<_>>()), refused(15));
+    assert_eq!(of(&[0; 513]), refused(10));
+
+    // The header's own refusals; no room is lent that could be too small.
+    assert_eq!(parent_moves(&[]), refused(2));
+    assert_eq!(parent_moves(&vec![0; 1_048_577]), refused(1));
+    let mut damaged = header_bytes(&fields(&[0, 0]));
+    damaged[4] ^= 1;
+    assert_eq!(parent_moves(&damaged), refused(3));
+    seal(&mut damaged);
+    assert_eq!(parent_moves(&damaged), refused(6));
+}
+
 /// Strings are well-formed UTF-8, each by itself.
 #[test]
 fn strings() {
@@ -764,6 +817,14 @@ fn examples() {
     assert_eq!((fields.0, &fields.1[..]), (0, &[5, 4, 1][..]));
     assert_eq!(fields.2[0], b"events");
     assert_eq!(fields, read(include_bytes!("../../../../examples/newer.header")));
+    assert_eq!(
+        parent_moves(include_bytes!("../../../../examples/fields.header")),
+        (0, [1])
+    );
+    assert_eq!(
+        parent_moves(include_bytes!("../../../../examples/newer.header")),
+        (0, [1])
+    );
     assert_eq!(
         header_answer(include_bytes!("../../../../examples/damaged.header")),
         256 + 3
