@@ -17,6 +17,7 @@ mod c {
             result: *mut u64,
             result_words: usize,
         ) -> u32;
+        pub fn rnt_parent_moves(header: *const u8, header_length: usize, result: *mut u64, result_words: usize) -> u32;
         pub fn rnt_read_footer(
             header: *const u8,
             header_length: usize,
@@ -130,6 +131,32 @@ pub fn read_header<'a>(
         columns: Table::first(result[5], columns, envelope),
         aliases: Table::first(result[6], aliases, envelope),
     })
+}
+
+/// The moves from the fields of a header to their tops, all of them together:
+/// one from a field to its parent, one more to the parent's parent, and so on up
+/// to the first field that is its own parent. With `n` fields they are at most
+/// `n * (n - 1) / 2`, so never more than 130,816.
+///
+/// No memory is lent, so that [`Reason::RoomTooSmall`](crate::Reason::RoomTooSmall)
+/// is never given; every other refusal is that of [`read_header`].
+///
+/// ```
+/// use rntuple_check::{parent_moves, Reason};
+///
+/// // Of its five fields one hangs on another, which is a top.
+/// let header = include_bytes!("../../../examples/fields.header");
+/// assert_eq!(parent_moves(header)?, 1);
+///
+/// let damaged = include_bytes!("../../../examples/damaged.header");
+/// assert_eq!(parent_moves(damaged).unwrap_err().reason, Reason::ChecksumDiffers);
+/// # Ok::<(), rntuple_check::Refusal>(())
+/// ```
+pub fn parent_moves(envelope: &[u8]) -> Result<u64, Refusal> {
+    let mut result = [0; 1];
+    // SAFETY: see above.
+    accepted(unsafe { c::rnt_parent_moves(envelope.as_ptr(), envelope.len(), result.as_mut_ptr(), result.len()) })?;
+    Ok(result[0])
 }
 
 /// An accepted footer: the rows that were read.

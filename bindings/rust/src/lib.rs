@@ -51,8 +51,8 @@ mod room;
 mod rows;
 
 pub use calls::{
-    crc32, decode_page, encode_page, is_utf8, read_footer, read_header, read_page_list, read_paired_page_list, Footer,
-    Header, PageList,
+    crc32, decode_page, encode_page, is_utf8, parent_moves, read_footer, read_header, read_page_list,
+    read_paired_page_list, Footer, Header, PageList,
 };
 pub use refusal::{Envelope, Reason, Refusal};
 pub use room::{decode, encode, FooterRoom, HeaderRoom, PageListRoom};

@@ -1,9 +1,9 @@
 //! The calls from Rust: accepted, refused, too little room, pages both ways, and nothing lent.
 
 use rntuple_check::{
-    crc32, decode, decode_page, encode, encode_page, is_utf8, most, read_footer, read_header, read_page_list,
-    read_paired_page_list, Alias, Cluster, Column, ColumnNumber, Envelope, FieldNumber, FooterRoom, HeaderRoom, Link,
-    Page, PageListRoom, Reason, Refusal,
+    crc32, decode, decode_page, encode, encode_page, is_utf8, most, parent_moves, read_footer, read_header,
+    read_page_list, read_paired_page_list, Alias, Cluster, Column, ColumnNumber, Envelope, FieldNumber, FooterRoom,
+    HeaderRoom, Link, Page, PageListRoom, Reason, Refusal,
 };
 
 const FIELDS: &[u8] = include_bytes!("../../../examples/fields.header");
@@ -132,6 +132,77 @@ fn a_header_is_read() {
     };
     assert_eq!(header.aliases.iter().collect::<Vec<_>>(), [alias]);
     assert_eq!(header.aliases.get(1), None);
+}
+
+/// A header whose fields have these parents and nothing else.
+fn header_of(parents: &[u32]) -> Vec<u8> {
+    let field = |parent: &u32| record(&[&[0; 8][..], &parent.to_le_bytes(), &[0; 4], &[0; 16]].concat());
+    let fields: Vec<_> = parents.iter().map(field).collect();
+    envelope(1, 1, &[vec![0; 16], list(&fields), list(&[]), list(&[])].concat())
+}
+
+#[test]
+fn moves_are_counted() {
+    assert_eq!((parent_moves(SMALLEST), parent_moves(FIELDS)), (Ok(0), Ok(1)));
+    assert_eq!(parent_moves(NEWER), Ok(1));
+    for (parents, moves) in [
+        (&[0][..], 0),
+        (&[0, 0], 1),
+        (&[1, 1], 1),
+        (&[0, 1], 0),
+        (&[2, 0, 2], 3),
+        (&[4, 4, 0, 0, 4, 1], 8),
+    ] {
+        assert_eq!(parent_moves(&header_of(parents)), Ok(moves), "{parents:?}");
+    }
+    // A chain of all fields, numbered from its top on or towards it.
+    let last = most::FIELDS as u32 - 1;
+    let rising: Vec<u32> = (0..=last).map(|i| i.saturating_sub(1)).collect();
+    let falling: Vec<u32> = (0..=last).map(|i| (i + 1).min(last)).collect();
+    assert_eq!(parent_moves(&header_of(&rising)), Ok(130_816));
+    assert_eq!(parent_moves(&header_of(&falling)), Ok(130_816));
+    assert_eq!(parent_moves(&header_of(&vec![last; most::FIELDS])), Ok(last.into()));
+}
+
+/// Each chain is followed by itself in the rows.
+#[test]
+fn moves_are_those_of_the_rows() {
+    let mut room = HeaderRoom::full();
+    let mut number = 1u32;
+    for count in 1..200 {
+        let mut any = |bound: u32| {
+            number = number.wrapping_mul(1_664_525).wrapping_add(1_013_904_223);
+            (number >> 8) % bound
+        };
+        // No parent comes before its child, or none after it.
+        let mut parents: Vec<u32> = (0..count).map(|i| i + any(count - i)).collect();
+        if count % 2 == 0 {
+            parents = parents.iter().rev().map(|parent| count - 1 - parent).collect();
+        }
+        let envelope = header_of(&parents);
+        let fields = room.read(&envelope).unwrap().fields;
+        let parent = |field| fields.get(field).unwrap().parent.0;
+        let mut moves = 0;
+        for mut at in 0..fields.len() {
+            while parent(at) != at {
+                at = parent(at);
+                moves += 1;
+            }
+        }
+        assert_eq!(parent_moves(&envelope), Ok(moves), "{parents:?}");
+    }
+}
+
+#[test]
+fn moves_of_a_refused_header() {
+    let refused = |reason| Err(refused(Envelope::Header, reason));
+    assert_eq!(parent_moves(&[]), refused(Reason::EnvelopeTooShort));
+    assert_eq!(parent_moves(DAMAGED), refused(Reason::ChecksumDiffers));
+    assert_eq!(parent_moves(SURROGATE), refused(Reason::StringWrong));
+    assert_eq!(parent_moves(&header_of(&[1, 0])), refused(Reason::EndlessChain));
+    assert_eq!(parent_moves(&header_of(&[1])), refused(Reason::NoSuchNumber));
+    let too_many = vec![0; most::FIELDS + 1];
+    assert_eq!(parent_moves(&header_of(&too_many)), refused(Reason::CountAboveCeiling));
 }
 
 #[test]
