@@ -1,4 +1,5 @@
-/* Null pointers with count 0: every call takes them wherever nothing need be read or written; and the constants of the header. */
+/* Null pointers with count 0: every call takes them wherever nothing need be read or written; moves along chains; and the constants
+   of the header. */
 #include "rntuple_check.h"
 #include <stdio.h>
 #include <string.h>
@@ -48,6 +49,88 @@ static void headers(void) {
     same("place of the description", result[2], 20);
     same("fields", result[4], 0);
     same("header without a result", rnt_read_header(NULL, 0, NULL, 0, NULL, 0, NULL, 0, NULL, 0), RNT_RESULT_TOO_SHORT);
+}
+
+/* The bytes of a field record whose strings are empty; its parent stands at byte 12. */
+#define FIELD_BYTES 36
+
+static uint8_t chain[sizeof header + (RNT_MOST_FIELDS + 1) * FIELD_BYTES];
+
+static void put(uint8_t *at, uint32_t number) {
+    for (int i = 0; i < 4; i++) at[i] = (uint8_t)(number >> 8 * i);
+}
+
+/* Writes a header with so many fields; parent gives the parent of each. Gives its length. */
+static size_t write_fields(uint32_t count, uint32_t (*parent)(uint32_t field, uint32_t count)) {
+    size_t length = sizeof header + (size_t)count * FIELD_BYTES;
+    memset(chain, 0, length);
+    put(chain + 20, (uint32_t)-(8 + count * FIELD_BYTES));
+    put(chain + 24, count);
+    for (uint32_t i = 0; i < count; i++) {
+        uint8_t *field = chain + 28 + i * FIELD_BYTES;
+        put(field, FIELD_BYTES);
+        put(field + 12, parent(i, count));
+    }
+    empty_lists(chain + 28 + count * FIELD_BYTES, 2);
+    seal(chain, length);
+    return length;
+}
+
+static uint32_t before(uint32_t field, uint32_t count) { return (void)count, field > 0 ? field - 1 : 0; }
+static uint32_t after(uint32_t field, uint32_t count) { return field + 1 < count ? field + 1 : field; }
+static uint32_t itself(uint32_t field, uint32_t count) { return (void)count, field; }
+static uint32_t last(uint32_t field, uint32_t count) { return (void)field, count - 1; }
+static uint32_t around(uint32_t field, uint32_t count) { return (field + 1) % count; }
+static uint32_t beyond(uint32_t field, uint32_t count) { return (void)field, count; }
+
+static void moves(void) {
+    uint64_t result[3] = {9, 9, 9};
+    same("moves, no header", rnt_parent_moves(NULL, 0, result, 1), 256 + 2);
+    same("moves, no header, their sum", result[0], 0);
+    result[0] = 9;
+    same("moves of no fields", rnt_parent_moves(header, sizeof header, result, 1), 0);
+    same("moves of no fields, their sum", result[0], 0);
+    same("moves without a header and a result", rnt_parent_moves(NULL, 0, NULL, 0), RNT_RESULT_TOO_SHORT);
+    same("moves without a result", rnt_parent_moves(header, sizeof header, NULL, 0), RNT_RESULT_TOO_SHORT);
+    result[0] = 9;
+    same("moves, a result of no words", rnt_parent_moves(header, sizeof header, result, 0), RNT_RESULT_TOO_SHORT);
+    same("moves, a result of no words, what stands there", result[0], 9);
+
+    const struct {
+        const char *name;
+        uint32_t count;
+        uint32_t (*parent)(uint32_t field, uint32_t count);
+        uint32_t answer;
+        uint64_t sum;
+    } cases[] = {
+        {"moves of one field", 1, before, 0, 0},
+        {"moves of two fields", 2, before, 0, 1},
+        {"moves of two fields, the second on top", 2, after, 0, 1},
+        {"moves of a chain of five", 5, after, 0, 10},
+        {"moves of a chain", RNT_MOST_FIELDS, before, 0, 130816},
+        {"moves of a chain, the last on top", RNT_MOST_FIELDS, after, 0, 130816},
+        {"moves of tops", RNT_MOST_FIELDS, itself, 0, 0},
+        {"moves to the last", RNT_MOST_FIELDS, last, 0, RNT_MOST_FIELDS - 1},
+        {"moves in a circle", 2, around, 256 + 15, 0},
+        {"moves in the longest circle", RNT_MOST_FIELDS, around, 256 + 15, 0},
+        {"moves to no field", 1, beyond, 256 + 14, 0},
+        {"moves of too many fields", RNT_MOST_FIELDS + 1, before, 256 + 10, 0},
+    };
+    for (size_t i = 0; i < sizeof cases / sizeof *cases; i++) {
+        size_t length = write_fields(cases[i].count, cases[i].parent);
+        for (size_t words = 1; words <= 3; words++) {
+            result[0] = result[1] = result[2] = 9;
+            same(cases[i].name, rnt_parent_moves(chain, length, result, words), cases[i].answer);
+            same(cases[i].name, result[0], cases[i].sum);
+            same("moves, the words behind", result[1] + result[2], 18);
+        }
+        result[0] = 9;
+        same(cases[i].name, rnt_parent_moves(chain, length, result, 0), RNT_RESULT_TOO_SHORT);
+        same("moves, no words", result[0], 9);
+        chain[length - 5] ^= 1;
+        same("moves, another checksum", rnt_parent_moves(chain, length, result, 1), 256 + 3);
+        same("moves, another checksum, their sum", result[0], 0);
+    }
 }
 
 static void footers(void) {
@@ -112,6 +195,7 @@ int main(void) {
     same("UTF-8 of D800", rnt_is_utf8((const uint8_t *)"\xED\xA0\x80", 3), 0);
     write_envelopes();
     headers();
+    moves();
     footers();
     page_lists();
     paired_page_lists();
