@@ -3,10 +3,12 @@
 
 use differential::generate::random::Random;
 use differential::reference::footer::{CLUSTER_WORDS, LINK_WORDS};
+use differential::reference::header::{ALIAS_WORDS, COLUMN_WORDS, FIELD_WORDS};
 use differential::reference::page_list::PAGE_WORDS;
 use differential::reference::pages::stored_bits;
 use differential::writer::{stored_checksum, Writer};
 use differential::{calls, reference, writer};
+use std::cell::RefCell;
 use std::hint::black_box;
 use std::process::ExitCode;
 use std::time::Instant;
@@ -390,6 +392,82 @@ fn headers(random: &mut Random) {
     }
 }
 
+/// A header of 512 fields with these parents, and with empty strings.
+fn header_of_parents(parent: fn(u32) -> u32) -> Vec<u8> {
+    let mut header = writer::Header::default();
+    header.fields.items = (0..512)
+        .map(|i| writer::Field {
+            parent: parent(i),
+            ..Default::default()
+        })
+        .collect();
+    let mut writer = Writer::default();
+    writer.header(&header);
+    writer.bytes
+}
+
+/// The moves of all fields to their tops by the rows of a header's fields: each
+/// chain is walked by itself, from its field on.
+fn walk(fields: &[u64]) -> u64 {
+    let parent = |field: usize| fields[field * FIELD_WORDS + 2] as usize;
+    let mut moves = 0;
+    for mut at in 0..fields.len() / FIELD_WORDS {
+        while parent(at) != at {
+            at = parent(at);
+            moves += 1;
+        }
+    }
+    moves
+}
+
+/// The library's count of moves beside what there is without it: to read the
+/// header into tables, by the library or by the independent reader, and to walk
+/// in them.
+fn moves(random: &mut Random) {
+    let rooms = RefCell::new((
+        vec![0; 512 * FIELD_WORDS],
+        vec![0; 1_024 * COLUMN_WORDS],
+        vec![0; 256 * ALIAS_WORDS],
+        [0; 7],
+    ));
+    for (name, envelope, due) in [
+        // From the first field on: the longest chain comes first.
+        ("moves, chain of 512", header_of_parents(|i| (i + 1).min(511)), 130_816),
+        (
+            "the same from its top",
+            header_of_parents(|i| i.saturating_sub(1)),
+            130_816,
+        ),
+        ("moves, largest header", largest_header(random, text), 384),
+    ] {
+        let mut sum = 0;
+        let times = contest(
+            &mut sum,
+            &|sum| {
+                let mut result = [0];
+                assert_eq!(calls::parent_moves(black_box(&envelope), &mut result), 0);
+                *sum = result[0];
+            },
+            &[
+                ("read, walk", &|sum| {
+                    let (fields, columns, aliases, result) = &mut *rooms.borrow_mut();
+                    let answer = calls::read_header(black_box(&envelope), fields, columns, aliases, result);
+                    assert_eq!(answer, 0);
+                    *sum = walk(&fields[..result[4] as usize * FIELD_WORDS]);
+                }),
+                ("Rust", &|sum| {
+                    let (answer, [moves]) = reference::parent_moves(black_box(&envelope));
+                    assert_eq!(answer, 0);
+                    *sum = moves;
+                }),
+            ],
+            0,
+        );
+        assert_eq!(sum, due);
+        line(name, per_call(times.ours), &times, false);
+    }
+}
+
 /// A footer at its ceilings; from version 2 on it carries checksums.
 fn largest_footer(random: &mut Random, header: &[u8], version: u16) -> Vec<u8> {
     let mut footer = writer::Footer {
@@ -538,6 +616,8 @@ fn main() -> ExitCode {
     );
     println!("{ELEMENTS} elements and no checksum.");
     println!("A reader's bytes are those of all envelopes it reads.");
+    println!("For moves the others are to read the header, by the library (\"read, walk\") or by the independent reader, and to");
+    println!("walk each field's chain: 130,816 moves for a chain of 512.");
     println!();
     println!("{:<26} {:>16} {:>10}", "", "", "fastest");
     println!(
@@ -551,5 +631,6 @@ fn main() -> ExitCode {
     headers(&mut random);
     footers(&mut random);
     page_lists(&mut random);
+    moves(&mut random);
     ExitCode::SUCCESS
 }
