@@ -4,13 +4,15 @@ use mathlib.Core.List.{List, _++_}
 use mathlib.Core.Bool.{Bool, true, false}
 use mathlib.Core.Path.{_≡_, refl, sym, ap, _∙_}
 use native.Mathlib.Omega.{arith}
-use native.Mathlib.Nat.{suc-add, zero-add}
+use native.Mathlib.Nat.{suc-add, zero-add, add-zero, add-suc}
 use lib.Dec.{eqb, leb}
 use borrow.Author.Tests.{eqb-true, eqb-false, eq-eqb, ne-eqb, leb-true, leb-false}
 use lib.ListN.{length, getD, length-append, List·getD-append}
 use Rattle.numbers.specs.Choice.{pick}
 use Rattle.parents.specs.Parents.{topLevel, meets, reaches, allReach, isAbove}
-use Rattle.numbers.proofs.Choice.{both-true}
+use Rattle.parents.specs.Moves.{moves, totalMoves, allMoves}
+use Rattle.parents.proofs.EndlessLaws.{reach-each, reach-all}
+use Rattle.parents.proofs.MovesLaws.{moves-top, moves-settled}
 
 -- every field's parent is a field
 abbrev pub Closed-under : List ℕ → Type 0
@@ -71,27 +73,15 @@ module _ (parents new : List ℕ) (closed : Closed-under parents) where
   old-above zero f g h = refl
   old-above (suc k) f g h = rw (List·getD-append parents new 0 g h, old-above k f (getD parents g 0) (closed g h)) refl
 
--- every field reaches a self-parented one: each, and all
-pub reach-each : (parents : List ℕ) (n f : ℕ) → allReach parents n ≡ true → f < n → reaches parents (length parents) f ≡ true
-unfolding allReach
-reach-each parents zero f e h = absurd (omega arith)
-reach-each parents (suc n) f e h =
-    let (before, last) = both-true (allReach parents n) (reaches parents (length parents) n) e in
-    go (eqb f n) refl last (reach-each parents n f before)
-  where
-    go : (b : Bool) → eqb f n ≡ b → reaches parents (length parents) n ≡ true → (f < n → reaches parents (length parents) f ≡ true)
-        → reaches parents (length parents) f ≡ true
-    go true t last earlier = rw (eqb-true f n t) last
-    go false t last earlier = let other : f ≡ n → ⊥ = eqb-false f n t in earlier (omega arith)
-
-pub reach-all : (parents : List ℕ) (n : ℕ) → ((f : ℕ) → f < n → reaches parents (length parents) f ≡ true) → allReach parents n ≡ true
-unfolding allReach
-reach-all parents zero h = refl
-reach-all parents (suc n) h = rw (reach-all parents n (λ f l. h f (omega arith)), h n (omega arith)) refl
-
 -- appended fields are self-parented: from number n on, each is its own parent
 abbrev pub Tops : List ℕ → ℕ → Type 0
 Tops parents n = (f : ℕ) → n ≤ f → f < length parents → getD parents f 0 ≡ f
+
+-- the appended fields change no earlier number of moves
+old-moves : (parents new : List ℕ) → Closed-under parents → (k f : ℕ) → f < length parents → moves (parents ++ new) k f ≡ moves parents k f
+unfolding moves
+old-moves parents new closed zero f h = refl
+old-moves parents new closed (suc k) f h = rw (List·getD-append parents new 0 f h, old-moves parents new closed k (getD parents f 0) (closed f h)) refl
 
 module _ (parents new : List ℕ) (closed : Closed-under parents) (reach : allReach parents (length parents) ≡ true) (tops : Tops (parents ++ new) (length parents)) where
   pub reach-appended : allReach (parents ++ new) (length (parents ++ new)) ≡ true
@@ -112,3 +102,30 @@ module _ (parents new : List ℕ) (closed : Closed-under parents) (reach : allRe
   pub not-above : (f g : ℕ) → f < length parents → length parents ≤ g → g < length (parents ++ new)
       → isAbove (parents ++ new) (length (parents ++ new)) f g ≡ false
   not-above f g h l m = above-top (parents ++ new) (length (parents ++ new)) f g (eq-eqb (getD (parents ++ new) g 0) g (tops g l m)) ∙ ne-eqb f g (λ e. omega arith)
+
+  old-total : (m : ℕ) → m ≤ length parents → totalMoves (parents ++ new) (length (parents ++ new)) m ≡ totalMoves parents (length parents) m
+  unfolding totalMoves
+  old-total zero h = refl
+  old-total (suc m) h =
+      let more = length-append parents new in
+      rw (
+        old-total m (omega arith),
+        old-moves parents new closed (length (parents ++ new)) m h,
+        moves-settled parents (length parents) (length (parents ++ new)) m (omega arith) (reach-each parents (length parents) m reach h),
+      )
+
+  all-total : (j : ℕ) → length parents + j ≤ length (parents ++ new)
+      → totalMoves (parents ++ new) (length (parents ++ new)) (length parents + j) ≡ totalMoves parents (length parents) (length parents)
+  unfolding totalMoves
+  all-total zero h = rw add-zero (old-total (length parents) (omega arith))
+  all-total (suc j) h =
+      let r = all-total j (omega arith) in
+      let t = moves-top (parents ++ new) (length (parents ++ new)) (length parents + j) (eq-eqb _ _ (tops (length parents + j) (omega arith) (omega arith))) in
+      rw add-suc (omega arith)
+
+  -- the sum of the moves stays
+  pub moves-appended : allMoves (parents ++ new) ≡ allMoves parents
+  unfolding allMoves
+  moves-appended =
+      ap (totalMoves (parents ++ new) (length (parents ++ new))) (length-append parents new)
+      ∙ all-total (length new) (let more = length-append parents new in omega arith)

@@ -81,9 +81,6 @@ endless-take parents n inside zero h = refl
 endless-take parents n inside (suc k) h =
     rw (endless-take parents n inside k (omega arith), reaches-same parents (take n parents) n inside (λ x l. sym (getD-take n parents x 0 l)) n k h)
 
-pub all-reached : (parents : List ℕ) (n : ℕ) → Inside parents n → endless (take n parents) n n ≡ AllEnd → (f : ℕ) → f < n → reaches parents n f ≡ true
-all-reached parents n inside e = lowest parents n n .ends (endless-take parents n inside n (omega arith) ∙ e)
-
 all-step : (c : Chains) (b a : Bool) (m : ℕ) → (a ≡ true) ↔ (c ≡ AllEnd) → (both a b ≡ true) ↔ (orElse c (pick b AllEnd (endlessAt m)) ≡ AllEnd)
 all-step AllEnd true a m h = rw (h .1 refl) (λ _. refl, λ _. refl)
 all-step AllEnd false a m h = rw (h .1 refl) (λ e. clash e refl, λ e. absurd (let z : _≡_ {A = ℕ} 0 1 = cc in omega arith))
@@ -94,3 +91,13 @@ pub all-reach-iff : (parents : List ℕ) (m : ℕ) → (allReach parents m ≡ t
 unfolding allReach endless
 all-reach-iff parents zero = (λ _. refl, λ _. refl)
 all-reach-iff parents (suc m) = all-step _ _ _ m (all-reach-iff parents m)
+
+-- every field reaches a self-parented one: each, and all
+
+pub reach-each : (parents : List ℕ) (n f : ℕ) → allReach parents n ≡ true → f < n → reaches parents (length parents) f ≡ true
+reach-each parents n f e = lowest parents (length parents) n .ends (all-reach-iff parents n .0 e) f
+
+pub reach-all : (parents : List ℕ) (n : ℕ) → ((f : ℕ) → f < n → reaches parents (length parents) f ≡ true) → allReach parents n ≡ true
+unfolding allReach
+reach-all parents zero h = refl
+reach-all parents (suc n) h = rw (reach-all parents n (λ f l. h f (omega arith)), h n (omega arith))

@@ -3,6 +3,9 @@ pub mod InsideLaws
 pub mod ChainLaws
 pub mod Following
 pub mod EndlessLaws
+pub mod MovesLaws
+pub mod Climbing
+pub mod Summing
+pub mod Distances
 pub mod Darkening
 pub mod DarkLaws
-pub mod MovesLaws

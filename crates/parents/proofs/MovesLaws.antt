@@ -7,13 +7,15 @@ use mathlib.Core.List.{List}
 use native.Mathlib.Nat.{mul-one, mul-suc, suc-mul, mul-sub}
 use native.Mathlib.Numerals.{add-one}
 use native.Mathlib.Omega.{arith}
+use native.Mathlib.Decide.{le-ind}
 use lib.ListN.{getD, take}
 use lib.Seq.{getD-take}
 use Rattle.numbers.specs.Choice.{pick}
-use Rattle.parents.specs.Parents.{Inside, meets, topLevel, reaches, moves, totalMoves}
+use Rattle.parents.specs.Parents.{Inside, meets, topLevel, reaches}
+use Rattle.parents.specs.Moves.{moves, totalMoves}
 use Rattle.parents.proofs.Counting.{count, count-all, search-below}
 use Rattle.numbers.proofs.Choice.{which}
-use Rattle.parents.proofs.ChainLaws.{meets-down, meets-more, levels, crossing}
+use Rattle.parents.proofs.ChainLaws.{meets-down, meets-more, meets-le, levels, crossing}
 
 module _ (parents : List ℕ) where
   pub moves-top : (k f : ℕ) → topLevel parents f ≡ true → moves parents k f ≡ 0
@@ -33,6 +35,12 @@ module _ (parents : List ℕ) where
   moves-more zero f = ⊎-elim (λ t. rw t (omega arith)) (λ t. rw t (omega arith)) (which (topLevel parents f))
   moves-more (suc k) f =
       ⊎-elim (λ t. rw t (omega arith)) (λ t. rw t (let r = moves-more k (getD parents f 0) in omega arith)) (which (topLevel parents f))
+
+  -- more moves count no more, once the chain has ended
+  pub moves-settled : (k m f : ℕ) → k ≤ m → reaches parents k f ≡ true → moves parents m f ≡ moves parents k f
+  moves-settled k m f h e =
+      le-ind (λ (j : ℕ). moves parents j f ≡ moves parents k f) refl
+      (λ j l r. let s = moves-more j f in let t = rw (meets-le (topLevel parents) parents k j f l e) at s in omega arith) m h
 
   moves-step : (k f : ℕ) → topLevel parents f ≡ false → moves parents (suc k) f ≡ suc (moves parents k (getD parents f 0))
   unfolding moves

@@ -1,5 +1,5 @@
 -- Parent chains.
-use Prim.Native.Nat.{ℕ, zero, suc, _+_, _<_}
+use Prim.Native.Nat.{ℕ, zero, suc, _<_}
 use mathlib.Core.List.{List}
 use mathlib.Core.Bool.{Bool, true}
 use mathlib.Core.Path.{_≡_}
@@ -66,25 +66,6 @@ endless parents n (suc k) = orElse (endless parents n k) (pick (reaches parents 
 -- the answer on the first n of some parents; where one is none of the n fields, no chain is followed
 unfoldable pub chainsOf : List ℕ → ℕ → Chains
 chainsOf parents n = pick (inside parents n) (endless (take n parents) n n) AllEnd
-
--- how many moves from f its self-parented field is away, counted up to k
-unfoldable pub moves : List ℕ → ℕ → ℕ → ℕ
-moves parents zero f = 0
-moves parents (suc k) f = pick (topLevel parents f) 0 (suc (moves parents k (getD parents f 0)))
-
--- the sum of the moves from the fields below m, each counted up to k
-unfoldable pub totalMoves : List ℕ → ℕ → ℕ → ℕ
-totalMoves parents k zero = 0
-totalMoves parents k (suc m) = totalMoves parents k m + moves parents k m
-
--- the sum where every chain ends
-abbrev pub movesWhere : ℕ → Chains → ℕ
-movesWhere total AllEnd = total
-movesWhere total (Endless f) = 0
-
--- the moves of the first n of some parents; 0 where a chain never ends or a parent is none of the n fields
-unfoldable pub movesOf : List ℕ → ℕ → ℕ
-movesOf parents n = pick (inside parents n) (movesWhere (totalMoves (take n parents) n n) (endless (take n parents) n n)) 0
 
 -- f is g or an ancestor of g
 abbrev pub Above : List ℕ → ℕ → ℕ → Type 0

@@ -1,65 +1,102 @@
 // How far the fields are from their self-parented fields.
-use crate::Chains;
 use crate::walk::all_inside;
-use crate::walk::lowest_endless;
 use crate::walk::parent_of;
 use rows::FieldNumber;
 ghost use mathlib.Core.Path.{_≡_};
 ghost use mathlib.Core.Bool.{true};
-ghost use Prim.Native.Nat.{_*_, _-_, _/_, _<_, _≤_};
+ghost use Prim.Native.Nat.{_+_, _<_, _≤_};
 ghost use lib.ListN.{length, take};
 ghost use Rattle.rows.specs.Words.{mostFields};
-ghost use Rattle.parents.specs.Parents.{Inside, reaches, endless, moves, totalMoves, movesOf};
-ghost use Rattle.parents.specs.declared.Chains.the-variants.{AllEnd};
+ghost use Rattle.parents.specs.Parents.{Inside, reaches, endless};
+ghost use Rattle.parents.specs.Moves.{climbed, totalMoves, movesWhere, movesOf};
+ghost use Rattle.parents.specs.Marks.{Followed, Known};
 
-// How many moves from a field its self-parented field is away.
-fn moves_up(parents: &[u16], n: usize, field: FieldNumber) -> usize
-    requires { ⌜ (n ≤ mostFields) × (field .0 < n) × (n ≤ length (now parents)) ⌝ }
+// How many moves from a field its self-parented field is away, or that its chain never ends.
+pub enum Distance {
+    Away(u16),
+    Never,
+}
+
+// The moves along the chain from `start`. Each field that is followed is marked with start + 1, and has in `steps` its distance from the
+// start; where an earlier walk has been, `depths` has the moves from the start of that walk, and nothing is followed again.
+fn climb(
+    parents: &[u16],
+    marks: &mut [u16; rows::MOST_FIELDS],
+    steps: &mut [u16; rows::MOST_FIELDS],
+    depths: &[u16; rows::MOST_FIELDS],
+    n: usize,
+    start: FieldNumber,
+) -> Distance
+    requires { ⌜ (n ≤ mostFields) × (start .0 < n) × (n ≤ length (now parents)) ⌝ }
     requires { ⌜ Inside (now parents) n ⌝ }
-    requires { ⌜ reaches (now parents) n (field .0) ≡ true ⌝ }
-    ensures { λ r. ⌜ r ≡ moves (now (parents .entry)) n (field .0) ⌝ }
+    requires { ⌜ Followed (now parents) (now marks) (now steps) n (start .0) ⌝ }
+    requires { ⌜ Known (now parents) (now depths) n (start .0) ⌝ }
+    ensures { λ r. ⌜ r ≡ climbed (now (parents .entry)) n (start .0) ⌝ }
+    ensures { λ r. ⌜ (reaches (now (parents .entry)) n (start .0) ≡ true → Followed (now (parents .entry)) (now (marks .exit)) (now (steps .exit)) n (start .0 + 1)) ⌝ }
 {
-    let mut count = 0;
-    let mut f = field;
+    let stamp = (start.0 + 1) as u16;
+    let mut f = start;
+    let mut count = 0u16;
     loop {
         let up = parent_of(parents, f);
         if up.0 == f.0 {
-            return count;
+            return Distance::Away(count);
         }
+        let at = f.0 as usize;
+        let mark = marks[at];
+        if mark == stamp {
+            return Distance::Never;
+        }
+        if mark != 0 {
+            let depth = depths[mark as usize - 1];
+            return Distance::Away(count + (depth - steps[at]));
+        }
+        marks[at] = stamp;
+        steps[at] = count;
         count += 1;
         f = up;
     }
 }
 
-// The sum of the moves from each of n fields to its self-parented field, where every chain ends.
+// The sum of the moves from each of n fields to its self-parented field, 0 where a chain never ends. No field is followed twice.
 fn sum_of_moves(parents: &[u16], n: usize) -> usize
     requires { ⌜ (n ≤ mostFields) × (n ≤ length (now parents)) ⌝ }
     requires { ⌜ Inside (now parents) n ⌝ }
-    requires { ⌜ endless (take n (now parents)) n n ≡ AllEnd ⌝ }
-    ensures { λ r. ⌜ (r ≡ totalMoves (take n (now (parents .entry))) n n) × (r ≤ n * (n - 1) / 2) ⌝ }
+    ensures { λ r. ⌜ r ≡ movesWhere (totalMoves (take n (now (parents .entry))) n n) (endless (take n (now (parents .entry))) n n) ⌝ }
 {
+    let mut marks = [0u16; rows::MOST_FIELDS];
+    let mut steps = [0u16; rows::MOST_FIELDS];
+    let mut depths = [0u16; rows::MOST_FIELDS];
     let mut total = 0;
     let mut f = 0;
     while f < n {
-        total += moves_up(parents, n, FieldNumber(f as u64));
-        f += 1;
+        match climb(
+            parents,
+            &mut marks,
+            &mut steps,
+            &depths,
+            n,
+            FieldNumber(f as u64),
+        ) {
+            Distance::Away(moves) => {
+                depths[f] = moves;
+                total += moves as usize;
+                f += 1;
+            }
+            Distance::Never => {
+                return 0;
+            }
+        }
     }
     total
 }
 
-// The same for any parents: 0 where a chain never ends or a parent is none of the n fields.
-pub fn total_moves(parents: [u16; rows::MOST_FIELDS], n: usize) -> usize
-    ensures { λ r. ⌜ (r ≡ movesOf parents n) × (r ≤ n * (n - 1) / 2) ⌝ }
+// The same for any parents: 0 too where a parent is none of the n fields.
+pub fn total_moves(parents: &[u16], n: usize) -> usize
+    ensures { λ r. ⌜ r ≡ movesOf (now (parents .entry)) n ⌝ }
 {
-    if all_inside(&parents, n) {
-        match lowest_endless(parents, n) {
-            Chains::AllEnd => {
-                return sum_of_moves(&parents, n);
-            }
-            Chains::Endless(_) => {
-                return 0;
-            }
-        }
+    if all_inside(parents, n) {
+        return sum_of_moves(parents, n);
     }
     0
 }

@@ -1,34 +1,42 @@
-use Prim.Native.Nat.{_≤_, _-_}
-use mathlib.Core.Path.{_≡_, refl, _∙_}
+use Prim.Native.Nat.{_-_}
+use mathlib.Core.Path.{sym, _∙_}
 use native.Mathlib.Omega.{arith}
+use borrow.Author.Needs.{needs}
 use Rattle.rows.specs.Words.{mostFields}
-use Rattle.parents.specs.Parents.{totalMoves}
-use Rattle.parents.proofs.EndlessLaws.{all-reached}
-use Rattle.parents.proofs.MovesLaws.{moves-le, sum-le, total-more, total-take, total-bound}
+use Rattle.parents.proofs.MovesLaws.{sum-le}
+use Rattle.parents.proofs.Summing.{Summing, sum-starts, sum-goes, sum-never, sum-ends}
 use Rattle.parents.proofs.moves.sum_of_moves.Statement.{statement}
 use Rattle.parents.proofs.moves.sum_of_moves.Tie as tie
 
 abbrev Inv-loop : tie.InvT-loop
-Inv-loop parents n total₀ f₀ total f = (f ≤ n) × (total ≡ totalMoves parents n f)
+Inv-loop parents n marks₀ steps₀ depths₀ total₀ f₀ marks steps depths total f = Summing parents marks steps depths n f total
 
 abbrev μ-loop : tie.MeasureT-loop
-μ-loop parents n total₀ f₀ total f = n - f
+μ-loop parents n marks₀ steps₀ depths₀ total₀ f₀ marks steps depths total f = n - f
 
 loop-holds : tie.Need-loop-holds Inv-loop μ-loop
-unfolding totalMoves
-loop-holds c = (omega arith, refl)
+loop-holds c = sum-starts _ _ mostFields (c .before .pre .0 .0)
 
-moves-up-requires : tie.Need-moves-up-requires Inv-loop μ-loop
-moves-up-requires c κs = let l = c .loop-test .taken in
-    let p = c .before .before .before .pre in
-    ((p .0 .0, l, p .0 .1), (p .1 .0, all-reached _ _ (p .1 .0) (p .1 .1) _ l))
+climb-requires : tie.Need-climb-requires Inv-loop μ-loop
+climb-requires c κs = let p = c .before .before .before .before .before .before .pre in
+    ((p .0 .0, c .before .before .before .loop-test .taken, p .0 .1), (p .1, (c .before .before .before .before .loop .inv .followed, c .before .before .before .before .loop .inv .known)))
+
+enum-known-moves : tie.Need-enum-known-moves Inv-loop μ-loop
+enum-known-moves c = search needs
+
+mul-depths : tie.Need-mul-depths Inv-loop μ-loop
+mul-depths c = omega arith
+
+array-write-depths : tie.Need-array-write-depths Inv-loop μ-loop
+array-write-depths c = omega arith
+
+cast-total : tie.Need-cast-total Inv-loop μ-loop
+cast-total c = omega arith
 
 add-total : tie.Need-add-total Inv-loop μ-loop
-add-total c = let s = c .before .before .before .before .args in
-    let f = c .before .before .loop .f in
+add-total c = let s = c .before .before .before .before .before .before .before .before .before .before .args in
+    let f = c .before .before .before .before .before .before .before .before .loop .f in
     let a = sum-le (s .parents .now) mostFields (s .n) f (omega arith) in
-    let b = moves-le (s .parents .now) (s .n) f in
-    let m = c .moves-up .ensures in
     omega arith
 
 add-f : tie.Need-add-f Inv-loop μ-loop
@@ -38,17 +46,17 @@ loop-less : tie.Need-loop-less Inv-loop μ-loop
 loop-less c = omega arith
 
 loop-again : tie.Need-loop-again Inv-loop μ-loop
-loop-again c = let s = c .before .before .before .before .args in
-    let m = total-more (s .parents .now) (s .n) (c .before .before .loop .f) in
-    let k = c .moves-up .ensures in
-    (omega arith, omega arith)
+loop-again c = let e = sym (c .before .moves .given .1) ∙ c .before .before .before .climb .ensures .0 in
+    sum-goes _ _ (c .before .before .before .before .before .before .before .before .before .before .pre .1) _ _ _ _ _ (c .before .before .before .before .before .before .before .before .loop .inv) (c .before .before .before .before .before .before .before .loop-test .taken) _ e _ _ (c .before .before .before .climb .ensures .1)
+
+enum-told : tie.Need-enum-told Inv-loop μ-loop
+enum-told c = search needs
 
 returns : tie.Need-returns Inv-loop μ-loop
-returns c = let s = c .before .before .before .args in
-    let e : c .before .loop .f ≡ s .n = omega arith in
-    let t : c .before .loop .total ≡ totalMoves (s .parents .now) (s .n) (s .n) = rw e at (c .before .loop .inv .1) in
-    let b = total-bound (s .parents .now) (s .n) (c .before .before .before .pre .1 .0) (all-reached _ _ (c .before .before .before .pre .1 .0) (c .before .before .before .pre .1 .1)) in
-    (t ∙ total-take (s .parents .now) (s .n) (c .before .before .before .pre .1 .0) (s .n) (s .n) (omega arith), omega arith)
+returns c = sum-never _ _ (c .before .before .before .before .before .before .before .before .before .pre .1) _ _ _ _ _ (c .before .before .before .before .before .before .before .loop .inv) (c .before .before .before .before .before .before .loop-test .taken) (sym (c .enum-told .given .1) ∙ c .before .before .climb .ensures .0)
+
+returns-2 : tie.Need-returns-2 Inv-loop μ-loop
+returns-2 c = sum-ends _ _ (c .before .before .before .pre .1) _ _ _ _ _ (c .before .loop .inv) (omega arith)
 
 pub sum-of-moves-spec : {M : Type 1} → statement M
 sum-of-moves-spec =
@@ -57,9 +65,15 @@ sum-of-moves-spec =
     Inv-loop
     μ-loop
     loop-holds
-    moves-up-requires
+    climb-requires
+    enum-known-moves
+    mul-depths
+    array-write-depths
+    cast-total
     add-total
     add-f
     loop-less
     loop-again
-    returns)
+    enum-told
+    returns
+    returns-2)
