@@ -1,12 +1,14 @@
 // Answers as one number, and as words in front of a lent result: all of them, or none where they have no room there.
 use footer::FooterAnswer;
 use header::HeaderAnswer;
+use moves::MovesAnswer;
 use page_list::PageListAnswer;
 use page_rules::PageAnswer;
 ghost use mathlib.Core.Path.{_≡_};
 ghost use Rattle.numbers.specs.Rows.{put};
 ghost use Rattle.outcome.specs.Outcome.{codeOf};
 ghost use Rattle.header.specs.Tables.{outcomeOf as headerOutcome, textsOf};
+ghost use Rattle.moves.specs.Moves.{outcomeOf as movesOutcome};
 ghost use Rattle.footer.specs.Tables.{outcomeOf as footerOutcome};
 ghost use Rattle.page_list.specs.Tables.{outcomeOf as pageListOutcome};
 ghost use Rattle.page_rules.specs.Page.{outcomeOf as pageOutcome};
@@ -36,6 +38,23 @@ pub fn tell_header(answer: HeaderAnswer, result: &mut [u64]) -> u32
         }
         HeaderAnswer::Refused(number) => {
             rows::put_words(result, 0, &[0; 7]);
+            256 + number as u32
+        }
+    }
+}
+
+// The sum of the moves along a header's parent chains.
+pub fn tell_moves(answer: MovesAnswer, result: &mut [u64]) -> u32
+    ensures answers { λ r. ⌜ r ≡ codeOf (movesOutcome answer) ⌝ }
+    ensures leaves { λ _. ⌜ now (result .exit) ≡ put (now (result .entry)) 0 (movesOutcome answer .counts) ⌝ }
+{
+    match answer {
+        MovesAnswer::Moves(total) => {
+            rows::put_words(result, 0, &[total]);
+            0
+        }
+        MovesAnswer::Refused(number) => {
+            rows::put_words(result, 0, &[0; 1]);
             256 + number as u32
         }
     }

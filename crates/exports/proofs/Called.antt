@@ -16,6 +16,9 @@ use Rattle.outcome.specs.Outcome.{Outcome, codeOf}
 use Rattle.header.specs.Tables.{Answered, textsOf, outcomeOf as headerOutcome}
 use Rattle.header.specs.declared.HeaderAnswer.{HeaderAnswer}
 use Rattle.header.specs.declared.HeaderAnswer.the-variants.{Accepted as HeaderAccepted, Refused as HeaderRefused}
+use Rattle.moves.specs.Moves.{Answered as AnsweredMoves, outcomeOf as movesOutcome}
+use Rattle.moves.specs.declared.MovesAnswer.{MovesAnswer}
+use Rattle.moves.specs.declared.MovesAnswer.the-variants.{Moves, Refused as MovesRefused}
 use Rattle.footer.specs.Footer.{Footer}
 use Rattle.footer.specs.Tables.{Answered as AnsweredFooter, outcomeOf as footerOutcome}
 use Rattle.footer.specs.declared.FooterAnswer.{FooterAnswer}
@@ -29,7 +32,7 @@ use Rattle.page_rules.specs.declared.PageAnswer.the-variants.{Accepted as PageA
 use Rattle.page_rules.specs.Page.{outcomeOf as pageOutcome, readable, refuse, decodeOutcome, decoded, encodeOutcome, encoded}
 use Rattle.exports.specs.Results.{given, shortResult, HandsOver}
 use Rattle.answers.specs.Results.{headerResult}
-use Rattle.exports.specs.Calls.{HeaderCall, FooterCall, PageListCall, asks, EncodeCall}
+use Rattle.exports.specs.Calls.{HeaderCall, MovesCall, FooterCall, PageListCall, asks, EncodeCall}
 
 -- a result with room for n words, and one without
 
@@ -77,6 +80,21 @@ header-called {w₀ = w₀} {r = r} fits left is stored =
       columnsAre = given-room 7 w₀ _ _ fits (left .columnsAre);
       aliasesAre = given-room 7 w₀ _ _ fits (left .aliasesAre);
     }
+
+-- Moves.
+
+moves-words : (r : MovesAnswer) → length (movesOutcome r .counts) ≡ 1
+moves-words (Moves total) = refl
+moves-words (MovesRefused number) = refl
+
+pub moves-short : (x : Step Header) (w : List ℕ) → length w < 1 → MovesCall x w w shortResult
+moves-short x w short = hands-nothing 1 _ _ w short
+
+pub moves-called : {x : Step Header} {w₀ w : List ℕ} {r : MovesAnswer} {code : ℕ} → 1 ≤ length w₀ → AnsweredMoves x r
+    → code ≡ codeOf (movesOutcome r) → w ≡ put w₀ 0 (movesOutcome r .counts) → MovesCall x w₀ w code
+moves-called {w₀ = w₀} {r = r} fits left is stored =
+    let counts = ap (λ (o : Outcome). o .counts) (left .reports) in
+    hands-over 1 fits (ap length (sym counts) ∙ moves-words r) (is ∙ ap codeOf (left .reports)) (stored ∙ ap (put w₀ 0) counts)
 
 -- Footers.
 

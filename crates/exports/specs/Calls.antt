@@ -11,6 +11,7 @@ use Rattle.header.specs.Header.{Header}
 use Rattle.header.specs.Beside.{Beside}
 use Rattle.header.specs.Tables.{reported as reportedHeader, reportedTexts, written as writtenHeader, fieldTable, columnTable, aliasTable}
 use Rattle.records.specs.declared.HeaderTexts.{HeaderTexts}
+use Rattle.moves.specs.Moves.{reported as reportedMoves}
 use Rattle.footer.specs.Footer.{Footer}
 use Rattle.footer.specs.Tables.{reported as reportedFooter, written as writtenFooter, clusterTable, metadataTable}
 use Rattle.page_list.specs.Tables.{reported as reportedPageList, written as writtenPageList}
@@ -37,6 +38,10 @@ pub record HeaderCall (x : Step Header) (f₀ f c₀ c a₀ a w₀ w : List ℕ)
   pub fieldsAre : f ≡ given 7 w₀ (writtenHeader fieldTable (length f₀) (length c₀) (length a₀) f₀ x) f₀
   pub columnsAre : c ≡ given 7 w₀ (writtenHeader columnTable (length f₀) (length c₀) (length a₀) c₀ x) c₀
   pub aliasesAre : a ≡ given 7 w₀ (writtenHeader aliasTable (length f₀) (length c₀) (length a₀) a₀ x) a₀
+
+-- Moves: their sum.
+abbrev pub MovesCall : Step Header → List ℕ → List ℕ → ℕ → Type 0
+MovesCall x w₀ w r = HandsOver 1 (codeOf (reportedMoves x)) (reportedMoves x .counts) w₀ w r
 
 -- Footers: the counts of clusters and of metadata links.
 pub record FooterCall (x : Beside Footer) (c₀ c m₀ m w₀ w : List ℕ) (r : ℕ) : Type 0 where

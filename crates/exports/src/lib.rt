@@ -8,7 +8,7 @@ ghost use Rattle.page_list.specs.Tables.{pageListBeside};
 ghost use Rattle.pairing.specs.Paired.{pairedBeside};
 ghost use Rattle.page_rules.specs.Page.{decodeOutcome, decoded};
 ghost use Rattle.outcome.specs.Outcome.{codeOf};
-ghost use Rattle.exports.specs.Calls.{BytesCall, isUtf8, HeaderCall, FooterCall, PageListCall, EncodeCall, asks};
+ghost use Rattle.exports.specs.Calls.{BytesCall, isUtf8, HeaderCall, MovesCall, FooterCall, PageListCall, EncodeCall, asks};
 
 // What a call answers whose result has too few words: nothing is read, and nothing is written.
 const RESULT_TOO_SHORT: u32 = 4294967295;
@@ -50,6 +50,17 @@ pub extern "C" fn rnt_read_header(
     }
     let answer = header_reader::read_header(envelope, fields, columns, aliases);
     answers::tell_header(answer, result)
+}
+
+#[no_mangle]
+pub extern "C" fn rnt_parent_moves(envelope: &[u8], result: &mut [u64]) -> u32
+    ensures { λ r. ⌜ MovesCall (headerOf (now (envelope .entry))) (now (result .entry)) (now (result .exit)) r ⌝ }
+{
+    if result.len() < 1 {
+        return RESULT_TOO_SHORT;
+    }
+    let answer = moves::parent_moves(envelope);
+    answers::tell_moves(answer, result)
 }
 
 #[no_mangle]
