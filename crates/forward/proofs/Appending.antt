@@ -18,6 +18,7 @@ use Rattle.column_type.specs.Types.{known}
 use Rattle.header.specs.Header.{Header}
 use Rattle.records.specs.Records.{aliased}
 use Rattle.parents.specs.Parents.{allReach}
+use Rattle.parents.specs.Moves.{allMoves}
 use Rattle.header.specs.Tables.{headerOf, roomFor}
 use Rattle.parents.specs.Dark.{dark}
 use Rattle.rows.proofs.TableLaws.{flat-is, flat-length, flat-join}
@@ -36,7 +37,7 @@ use Rattle.forward.specs.HeaderAppend.{appended, SelfParented, Appendix,
 use Rattle.tree.proofs.HeaderCalls.{answer-of, accepted-call, roomy-call}
 use Rattle.forward.proofs.Calls.{mark, fields-say}
 use Rattle.forward.proofs.HeaderForward.{the-header}
-use Rattle.forward.proofs.Chains.{Closed-under, Tops, reach-appended, above-appended, not-above}
+use Rattle.forward.proofs.Chains.{Closed-under, Tops, reach-appended, above-appended, not-above, moves-appended}
 
 -- verdicts
 
@@ -266,6 +267,9 @@ module _ (t : HeaderTree) (right : RightHeader t) (fields : List (Framed FieldCo
       let new′ : Each (λ (c : ColumnRow). c .field .0 < length (parentsIn fs ++ parentsIn ns)) ks = rw (← size) (each-weaken (column-field (length fs + length ns)) ks validColumns) in
       rw parents-appended (dark-appended (parentsIn fs) (parentsIn ns) closed reach tops i (omega (arith, long)) cs ks old new new′)
 
+  sum : allMoves (parentsIn (fs ++ ns)) ≡ allMoves (parentsIn fs)
+  sum = ap allMoves parents-appended ∙ moves-appended (parentsIn fs) (parentsIn ns) closed reach tops
+
 -- the tables of a header with fields and columns appended
 
 mark-content : (e : List ℕ) (h : Header) (i : ℕ) → mark (h .lists) i ≡ dark (parentsIn (headerContent e h .fields)) (headerContent e h .columns) i
@@ -287,6 +291,7 @@ pub record ReadMore (e : List ℕ) (h : Header) (e′ : List ℕ) (fields : List
   pub columnsAre : headerContent e′ header .columns ≡ headerContent e h .columns ++ map inner columns
   pub aliasesAre : headerContent e′ header .aliases ≡ headerContent e h .aliases
   pub marks-are : (i : ℕ) → i < length (h .lists .fields) → mark (header .lists) i ≡ mark (h .lists) i
+  pub moves-are : allMoves (parentsIn (headerContent e′ header .fields)) ≡ allMoves (parentsIn (headerContent e h .fields))
 
 pub read-more : (e : List ℕ) (h : Header) (q : ℕ) → headerOf e ≡ found h q → (t : HeaderTree) → RightHeader t → renderHeader t ≡ e
     → (fields : List (Framed FieldContent)) (columns : List (Framed ColumnRow)) → Appendix t fields columns
@@ -311,6 +316,7 @@ read-more e h q reads t right is fields columns a =
           mark-content e′ (new .header) i ∙ ap (λ (c : HeaderContent). dark (parentsIn (c .fields)) (c .columns) i) means′
           ∙ marks t right fields columns a i (omega (arith, count))
           ∙ sym (ap (λ (c : HeaderContent). dark (parentsIn (c .fields)) (c .columns) i) means) ∙ sym (mark-content e h i);
+      moves-are = ap (λ (c : HeaderContent). allMoves (parentsIn (c .fields))) means′ ∙ sum t right fields columns a ∙ sym (ap (λ (c : HeaderContent). allMoves (parentsIn (c .fields))) means);
     }
 
 -- words of rows

@@ -18,6 +18,8 @@ use Rattle.header.specs.Beside.{Beside, read, refusal, inEnvelope, beside}
 use Rattle.header.specs.Tables.{headerOf, answer, outcomeOf, roomFor}
 use Rattle.header.specs.declared.HeaderAnswer.{HeaderAnswer}
 use Rattle.header.specs.declared.HeaderAnswer.the-variants.{Accepted, Refused}
+use Rattle.moves.specs.Moves.{answer as movesAnswer, outcomeOf as movesOutcome}
+use Rattle.moves.specs.declared.MovesAnswer.{MovesAnswer}
 use Rattle.footer.specs.Footer.{Footer, footerOf}
 use Rattle.footer.specs.Tables.{footerBeside, besideByBuild, answer as footerAnswer, outcomeOf as footerOutcome, roomFor as footerRoom}
 use Rattle.footer.specs.declared.FooterAnswer.{FooterAnswer}
@@ -29,7 +31,7 @@ use Rattle.page_list.specs.declared.PageListAnswer.{PageListAnswer}
 use Rattle.page_list.specs.declared.PageListAnswer.the-variants.{Accepted as AcceptedPages, Refused as RefusedPages}
 use Rattle.rows.specs.declared.PageRow.{PageRow}
 use Rattle.pairing.specs.Paired.{pairedOf, pairedBeside}
-use Rattle.refusals.specs.Refusals.{among, inHeader, inFooter, inPageList, inPairing, HeaderNumbers, FooterNumbers, PageListNumbers, PairingNumbers, withRoom, ofHeader, ofBeside, possible, Told, HeaderRefusals, FooterRefusals, PageListRefusals, PairingRefusals}
+use Rattle.refusals.specs.Refusals.{among, inHeader, inFooter, inPageList, inPairing, HeaderNumbers, FooterNumbers, PageListNumbers, PairingNumbers, withRoom, ofFirst, ofHeader, ofMoves, ofBeside, possible, Told, HeaderRefusals, MovesRefusals, FooterRefusals, PageListRefusals, PairingRefusals}
 use Rattle.refusals.proofs.Naming.{no, among-more}
 use Rattle.refusals.proofs.HeaderNumbers.{header-numbers}
 use Rattle.refusals.proofs.FooterNumbers.{footer-numbers}
@@ -57,11 +59,11 @@ among-below k (m ∷ ms) n h a = by (among-below k ms n) (ltb m k) refl h (eqb n
 abbrev OneByte : (ℕ → ℕ → Bool) → Type 0
 OneByte refusals = (envelope number : ℕ) → refusals envelope number ≡ true → number < 256
 
-header-byte : OneByte ofHeader
-header-byte envelope number h = by (eqb envelope 1) h
+first-byte : (numbers : List ℕ) → allBelow 256 numbers ≡ true → OneByte (ofFirst numbers)
+first-byte numbers few envelope number h = by (eqb envelope 1) h
   where
-    by : (b : Bool) → both b (among (withRoom inHeader) number) ≡ true → number < 256
-    by true h = among-below 256 (withRoom inHeader) number refl h
+    by : (b : Bool) → both b (among numbers number) ≡ true → number < 256
+    by true h = among-below 256 numbers number few h
     by false h = no h
 
 beside-byte : (k : ℕ) (numbers : List ℕ) → allBelow 256 numbers ≡ true → OneByte (ofBeside k numbers)
@@ -105,7 +107,20 @@ header-possible f c a e = by (headerOf e) (header-numbers e)
 pub header-refusals : HeaderRefusals
 unfolding HeaderRefusals
 header-refusals e f₀ f c₀ c a₀ a r call =
-    told ofHeader header-byte (outcomeOf r) (ap (λ (y : HeaderAnswer). possible ofHeader (outcomeOf y)) (call .answers) ∙ header-possible (length f₀) (length c₀) (length a₀) e)
+    told ofHeader (first-byte (withRoom inHeader) refl) (outcomeOf r) (ap (λ (y : HeaderAnswer). possible ofHeader (outcomeOf y)) (call .answers) ∙ header-possible (length f₀) (length c₀) (length a₀) e)
+
+-- moves
+
+moves-possible : (x : Step Header) → ((g : Fault) → x ≡ refused g → among inHeader (g .number) ≡ true) → possible ofMoves (movesOutcome (movesAnswer x)) ≡ true
+unfolding movesAnswer
+moves-possible (found h p) numbers = refl
+moves-possible (refused g) numbers = numbers g refl
+
+pub moves-refusals : MovesRefusals
+unfolding MovesRefusals HeaderNumbers
+moves-refusals e r call =
+    told ofMoves (first-byte inHeader refl) (movesOutcome r)
+    (ap (λ (y : MovesAnswer). possible ofMoves (movesOutcome y)) (call .answers) ∙ moves-possible (headerOf e) (header-numbers e))
 
 -- what is read beside a header: by the header's refusal, a refusal of its own, and what was read
 beside-any : {A : Type 0} (P : Beside A → Type 0) (k : ℕ) (ns : List ℕ) (r : Header → Step A) → ((h : Header) (f : Fault) → r h ≡ refused f → among ns (f .number) ≡ true)

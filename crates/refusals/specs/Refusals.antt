@@ -11,6 +11,8 @@ use Rattle.outcome.specs.Outcome.{Outcome, isAccepted, codeOf}
 use Rattle.header.specs.Header.{Header}
 use Rattle.header.specs.Tables.{headerOf, outcomeOf, Answered}
 use Rattle.header.specs.declared.HeaderAnswer.{HeaderAnswer}
+use Rattle.moves.specs.Moves.{outcomeOf as movesOutcome, Answered as AnsweredMoves}
+use Rattle.moves.specs.declared.MovesAnswer.{MovesAnswer}
 use Rattle.footer.specs.Footer.{footerOf}
 use Rattle.footer.specs.Tables.{footerBeside, outcomeOf as footerOutcome, Answered as AnsweredFooter}
 use Rattle.footer.specs.declared.FooterAnswer.{FooterAnswer}
@@ -60,8 +62,16 @@ PairingNumbers =
 abbrev pub withRoom : List ℕ → List ℕ
 withRoom numbers = 20 ∷ numbers
 
+-- those of envelope 1, with these numbers
+abbrev pub ofFirst : List ℕ → ℕ → ℕ → Bool
+ofFirst numbers envelope number = both (eqb envelope 1) (among numbers number)
+
 abbrev pub ofHeader : ℕ → ℕ → Bool
-ofHeader envelope number = both (eqb envelope 1) (among (withRoom inHeader) number)
+ofHeader = ofFirst (withRoom inHeader)
+
+-- the call that counts moves is lent no table
+abbrev pub ofMoves : ℕ → ℕ → Bool
+ofMoves = ofFirst inHeader
 
 -- the header's, which needs no room, or those of envelope k, with these numbers
 abbrev pub ofBeside : ℕ → List ℕ → ℕ → ℕ → Bool
@@ -78,11 +88,14 @@ pub record Told (refusals : ℕ → ℕ → Bool) (o : Outcome) : Type 0 where
   pub envelope : codeOf o / 256 ≡ o .envelope
   pub number : codeOf o % 256 ≡ o .number
 
--- every call of each reader
+-- every call of each reader, and of the call that counts moves
 
 unfoldable pub HeaderRefusals : Type 0
 HeaderRefusals =
     (e f₀ f c₀ c a₀ a : List ℕ) (r : HeaderAnswer) → Answered (headerOf e) f₀ f c₀ c a₀ a r → Told ofHeader (outcomeOf r)
+
+unfoldable pub MovesRefusals : Type 0
+MovesRefusals = (e : List ℕ) (r : MovesAnswer) → AnsweredMoves (headerOf e) r → Told ofMoves (movesOutcome r)
 
 unfoldable pub FooterRefusals : Type 0
 FooterRefusals =

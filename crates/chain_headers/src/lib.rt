@@ -1,0 +1,1 @@
+// Headers whose fields are one chain: theorems only (specs/ and proofs/).
