@@ -26,7 +26,8 @@ pub fn parent_moves(envelope: &[u8]) -> MovesAnswer
     ) {
         ScanStep::Found(scan, _) => {
             let lists = scan.lists;
-            MovesAnswer::Moves(parents::moves::total_moves(&parents, lists.fields) as u64)
+            let total = parents::moves::total_moves(&parents, lists.fields);
+            MovesAnswer::Moves(total as u64)
         }
         ScanStep::Refused(f) => MovesAnswer::Refused(f.number),
     }
