@@ -8,7 +8,7 @@ use borrow.Author.Tests.{ltb-true}
 use lib.Dec.{ltb, eqb}
 use Rattle.wire.specs.Reading.{Step, found, _>>=_, give, unless, number, tested}
 use Rattle.frames.specs.Frames.{recordOf}
-use Rattle.wire.proofs.Laws.{passed, bound, judged-zero}
+use Rattle.wire.proofs.Laws.{passed, bound, judged-found}
 use Rattle.frames.proofs.Loops.{Reached, reached-none, reached-more, record-found}
 use Rattle.links.specs.Links.{link}
 use Rattle.clusters.specs.Clusters.{entriesOf, startsAt, entryCount, listChecksum, cluster}
@@ -36,7 +36,7 @@ cluster-fits carried file sum s at {r} {p} =
     bound Fits (link file) (λ l. listChecksum carried >>= (λ c. give (row f w l c))) s q₂ (λ l q₃ _.
     bound Fits (listChecksum carried) (λ c. give (row f w l c)) s q₃ (λ c q₄ _ g.
     let same : row f w l c ≡ r = cc in
-    rw (← same) (count-fits sum w (judged-zero (entryCount sum) q (number 8 s q) e))))))
+    rw (← same) (count-fits sum w (judged-found (entryCount sum) q (number 8 s q) e .1))))))
   where
     Fits : ClusterRow → ℕ → Type 0
     Fits r _ = sum + r .entries < 2 ^ 60

@@ -5,14 +5,14 @@ use mathlib.Core.Bool.{Bool, true, false}
 use mathlib.Core.List.{List}
 use native.Mathlib.Omega.{arith}
 use borrow.Author.Tests.{leb-true}
-use lib.Dec.{eqb, leb}
+use lib.Dec.{leb}
 use lib.ListN.{length, take}
 use Rattle.numbers.specs.Choice.{pick}
 use Rattle.numbers.specs.Numbers.{little, littleIn}
 use Rattle.numbers.proofs.Choice.{clash}
 use Rattle.wire.specs.declared.Kind.the-variants.{Number, Frame, Spare}
-use Rattle.wire.specs.Reading.{Step, found, refused, _>>=_, give, fault, number, judged, tested, accepted}
-use Rattle.wire.proofs.Laws.{never, bound}
+use Rattle.wire.specs.Reading.{Step, found, refused, _>>=_, give, fault, number, tested, accepted}
+use Rattle.wire.proofs.Laws.{never, pick-found, bound, judged-found}
 use Rattle.frames.specs.declared.FrameSize.{FrameSize}
 use Rattle.frames.specs.declared.FrameSize.the-variants.{RecordSize, ListSize}
 use Rattle.frames.proofs.Laws.{record-content}
@@ -28,23 +28,12 @@ use Rattle.clusters.specs.Answers.{checksumAt, clusterAt}
 
 number-found : (k : ℕ) (s : List ℕ) (at : ℕ) {v p : ℕ} → number k s at ≡ found v p → (v ≡ littleIn k s at) × (p ≡ at + k)
 unfolding number littleIn
-number-found k s at {v} {p} e = by (leb (at + k) (length s)) e
-  where
-    by : (b : Bool) → pick {A = Step ℕ} b (found (little k s at) (at + k)) (refused (fault 7 Number at)) ≡ found v p → (v ≡ pick b (little k s at) 0) × (p ≡ at + k)
-    by true g = (cc, cc)
-    by false g = never g
-
-judged-was : (verdict : ℕ → ℕ) (at : ℕ) (x : Step ℕ) {v p : ℕ} → judged verdict at x ≡ found v p → x ≡ found v p
-unfolding judged
-judged-was verdict at (found w q) {v} {p} e = by (eqb (verdict w) 0) e
-  where
-    by : (b : Bool) → pick {A = Step ℕ} b (found w q) (refused (fault (verdict w) Number at)) ≡ found v p → found w q ≡ found v p
-    by true g = g
-    by false g = never g
-judged-was verdict at (refused f) e = never e
+number-found k s at {v} {p} e =
+    let (room, was) = pick-found (leb (at + k) (length s)) (found (little k s at) (at + k)) (fault 7 Number at) v p e in
+    rw room (cc, cc)
 
 tested-found : (k : ℕ) (verdict : ℕ → ℕ) (s : List ℕ) (at : ℕ) {v p : ℕ} → tested k verdict s at ≡ found v p → (v ≡ littleIn k s at) × (p ≡ at + k)
-tested-found k verdict s at e = number-found k s at (judged-was verdict at (number k s at) e)
+tested-found k verdict s at e = number-found k s at (judged-found verdict at (number k s at) e .0)
 
 -- links and checksums
 

@@ -12,13 +12,13 @@ use Rattle.numbers.specs.Choice.{both}
 use Rattle.numbers.specs.Numbers.{little}
 use Rattle.checksum.specs.Crc.{crc32}
 use Rattle.wire.specs.Reading.{Step, found, refused, Rule}
+use Rattle.wire.proofs.Laws.{pick-found}
 use Rattle.frames.specs.Frames.{closed}
 use Rattle.envelope.specs.Envelope.{Versions, versionsOf, versioned, versionOf, opened, enclosed, ceiling, strictOf, checksumOf}
 use Rattle.tree.specs.Bytes.{spelled, Stands, Bytes}
 use Rattle.tree.specs.Shape.{Carrier, Shape, Read, Written, Law}
 use Rattle.tree.specs.EnvelopeTree.{Enveloped, unsummed, sealed, renderEnvelope, Right}
 use Rattle.tree.proofs.Place.{length-spelled, stands-left, stands-right, stands-join, part-stands, little-spelled, little-bound, spelled-little, container-long}
-use Rattle.tree.proofs.Simple.{pick-found}
 use Rattle.numbers.proofs.Choice.{both-true}
 use Rattle.tree.proofs.Frames.{closed-complete, Closed, closed-sound, spare-of, spare-long, spare-stands, spare-none}
 

@@ -14,6 +14,7 @@ use Rattle.numbers.specs.Choice.{pick}
 use Rattle.numbers.proofs.Choice.{clash}
 use Rattle.numbers.specs.Numbers.{little}
 use Rattle.wire.specs.Reading.{Step, found, refused, Rule, after, inItem}
+use Rattle.wire.proofs.Laws.{pick-found}
 use Rattle.frames.specs.Frames.{closedBy, closed, frameSize, recordHead, recordEnd, listEnd, recordBody, recordOf, listStop, listCount, countJudged, listHead, listBody, listOf, within, items}
 use Rattle.frames.specs.declared.ListHead.{ListHead as Head}
 use Rattle.frames.specs.declared.FrameSize.the-variants.{RecordSize, ListSize}
@@ -21,7 +22,7 @@ use Rattle.wire.specs.declared.Fault.{Fault}
 use Rattle.tree.specs.Bytes.{spelled, Stands, Bytes}
 use Rattle.tree.specs.Shape.{Carrier, Shape, Read, Written, Law, bare, framed, recordShape, renderItems, ValidItems, Means, none, more, listCarrier, listShape}
 use Rattle.tree.proofs.Place.{length-spelled, stands-left, stands-right, stands-join, stands-none, stands-part, little-spelled, little-bound, spelled-little, container-long, little-container, container-in}
-use Rattle.tree.proofs.Simple.{pick-found, after-found, meant}
+use Rattle.tree.proofs.Simple.{after-found, meant}
 
 -- a container's end
 
