@@ -57,7 +57,7 @@ module _ (n : ℕ) (s : List ℕ) where
 abbrev pub Bytes : List ℕ → Type 0
 Bytes s = (i : ℕ) → getD s i 0 < 256
 
-little-below : (k : ℕ) (s : List ℕ) (at : ℕ) → Bytes s → little k s at < 256 ^ k
+pub little-below : (k : ℕ) (s : List ℕ) (at : ℕ) → Bytes s → little k s at < 256 ^ k
 unfolding little
 little-below zero s at b = omega arith
 little-below (suc k) s at b =
