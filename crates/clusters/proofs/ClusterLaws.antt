@@ -45,7 +45,7 @@ cluster-fits carried file sum s at {r} {p} =
     row f w l c = record { «first_entry» = f; entries = w; «page_list» = l; checksum = c }
 
 pub record-fits : (carried strict : Bool) (file sum : ℕ) (s : List ℕ) (at : ℕ) {r : ClusterRow} {p : ℕ} → recordOf strict (cluster carried file sum) s at ≡ found r p → sum + r .entries < 2 ^ 60
-record-fits carried strict file sum s at = record-found (λ x. sum + x .entries < 2 ^ 60) strict (cluster carried file sum) s at (λ t from q. cluster-fits carried file sum t from)
+record-fits carried strict file sum s at = record-found (λ x. sum + x .entries < 2 ^ 60) strict (cluster carried file sum) s at (λ stop from q. cluster-fits carried file sum _ from)
 
 -- i clusters of the n of a list have been read, and have `sum` entries
 pub record Summed (carried strict : Bool) (file list n : ℕ) (s : List ℕ) (start i at sum : ℕ) : Type 0 where

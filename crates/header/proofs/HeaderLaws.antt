@@ -1,9 +1,8 @@
 -- What a header that was read has: how its envelope and payload were read, and the bounds of its numbers.
-use Prim.Native.Nat.{ℕ, zero, suc, _+_, _-_, _/_, _≤_, _<_}
+use Prim.Native.Nat.{ℕ, _+_, _-_, _/_, _≤_, _<_}
 use mathlib.Core.Path.{_≡_, refl, sym, ap, subst, _∙_}
-use mathlib.Core.Bool.{Bool, true, false}
-use mathlib.Core.List.{List, [], _∷_}
-use native.Mathlib.Omega.{arith}
+use mathlib.Core.Bool.{Bool, true}
+use mathlib.Core.List.{List}
 use borrow.Author.Tests.{leb-true, le-leb}
 use lib.Dec.{leb, eqb}
 use lib.ListN.{length, getD, take}
@@ -17,7 +16,8 @@ use Rattle.frames.specs.Frames.{listOf, listStop, countJudged, recordOf}
 use Rattle.frames.proofs.Laws.{list-room, closed-found}
 use Rattle.frames.proofs.Loops.{list-most}
 use Rattle.numbers.specs.Lists.{Each}
-use Rattle.envelope.specs.Envelope.{ceiling, checksumOf, versionsOf, whole, opened, enclosed, versioned, envelope, Versions}
+use Rattle.numbers.proofs.Lists.{each-at}
+use Rattle.envelope.specs.Envelope.{ceiling, checksumOf, whole, opened, enclosed, versioned, envelope, Versions}
 use Rattle.rows.specs.Words.{mostFields, mostColumns, mostAliases, fieldWidth, columnWidth, aliasWidth, fullFields, fullColumns, fullAliases}
 use Rattle.rows.specs.declared.FieldRow.{FieldRow}
 use Rattle.rows.specs.declared.ColumnRow.{ColumnRow}
@@ -29,7 +29,7 @@ use Rattle.header.specs.Header.{Header, flagsOf, lists, payload}
 use Rattle.header.specs.Tables.{endlessFault, chained, headerOf, parentsOf, roomFor}
 use Rattle.header.proofs.ListLaws.{Parts, lists-parts}
 use Rattle.header.proofs.PayloadLaws.{texts-refused, payload-lists}
-use Rattle.header.proofs.BoundLaws.{parents-below, columns-below, bits-below, each-map}
+use Rattle.header.proofs.BoundLaws.{parents-below, columns-below, bits-below, map-below}
 
 -- the lists of a payload, where they stand
 pub payload-parts : (strict : Bool) (s : List ℕ) {h : Header} {p : ℕ} → payload strict s 4 ≡ found h p → lists strict s (h .lists .fieldsAt) ≡ found (h .lists) p
@@ -114,7 +114,7 @@ payload-read e {h} {p} w = by (opened 1 e) refl w
 pub payload-inside : (e : List ℕ) {h : Header} {p : ℕ} → envelope 1 payload e ≡ found h p → Inside (parentsOf (h .lists .fields)) (length (h .lists .fields))
 payload-inside e {h} w =
     let r = payload-read e w in
-    each-map (λ (r : FieldRow). r .head .parent .0) (length (h .lists .fields)) (h .lists .fields) (parents-below (r .versions .strict) (take (r .stop) e) (h .lists .fieldsAt) (r .parts .fieldsAre))
+    map-below (λ (r : FieldRow). r .head .parent .0) (length (h .lists .fields)) (h .lists .fields) (parents-below (r .versions .strict) (take (r .stop) e) (h .lists .fieldsAt) (r .parts .fieldsAre))
 
 pub header-payload : (e : List ℕ) {h : Header} {p : ℕ} → headerOf e ≡ found h p → envelope 1 payload e ≡ found h p
 unfolding headerOf
@@ -126,11 +126,6 @@ header-reaches e w = chained-found (take (length e - 4) e) (envelope 1 payload e
 
 pub header-read : (e : List ℕ) {h : Header} {p : ℕ} → headerOf e ≡ found h p → PayloadRead e h
 header-read e w = payload-read e (header-payload e w)
-
-each-at : {A : Type 0} (P : A → Type 0) (d : A) (rows : List A) → Each P rows → (i : ℕ) → i < length rows → P (getD rows i d)
-each-at P d [] each i h = absurd (omega arith)
-each-at P d (r ∷ rows) each zero h = each .0
-each-at P d (r ∷ rows) each (suc i) h = each-at P d rows (each .1) i (omega arith)
 
 module _ (e : List ℕ) {h : Header} {p : ℕ} (w : headerOf e ≡ found h p) where
   pub fields-few : length (h .lists .fields) ≤ mostFields
@@ -168,4 +163,4 @@ module _ (e : List ℕ) {h : Header} {p : ℕ} (w : headerOf e ≡ found h p) wh
 
   -- of column i
   pub bits-small : Bytes e → (d : ColumnRow) (i : ℕ) → i < length (h .lists .columns) → getD (h .lists .columns) i d .bits < 65536
-  bits-small b d = each-at (λ (r : ColumnRow). r .bits < 65536) d (h .lists .columns) (column-sizes b)
+  bits-small b d i = each-at (λ (r : ColumnRow). r .bits < 65536) (h .lists .columns) d i (column-sizes b)
