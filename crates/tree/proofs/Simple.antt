@@ -11,7 +11,7 @@ use lib.ListN.{length, take, drop, length-append, length-drop}
 use lib.Seq.{length-take-le}
 use Rattle.numbers.specs.Numbers.{little}
 use Rattle.wire.specs.Reading.{Step, found, refused, Rule, after, _>>=_, give, here, number, judged, tested}
-use Rattle.wire.proofs.Laws.{pick-found, judged-found}
+use Rattle.wire.proofs.Laws.{never, pick-found, judged-found}
 use Rattle.text.specs.Strings.{stringOf}
 use Rattle.tree.specs.Bytes.{spelled, Stands}
 use Rattle.tree.specs.Shape.{Carrier, Shape, Law, bare, numberShape, stringShapeOf, chars, nothingShape, NoVerdict, _▷_, thenShape, seenShape, dressed, dressedShape}
@@ -151,7 +151,7 @@ module _ (s : List ℕ) (strict : Bool) where
 pub after-found : {A B : Type 0} (k : A → Rule B) (s : List ℕ) (x : Step A) (b : B) (q : ℕ) → after k s x ≡ found b q
     → (a : A) × (p : ℕ) × (x ≡ found a p) × (k a s p ≡ found b q)
 after-found k s (found a p) b q e = (a, p, refl, e)
-after-found k s (refused f) b q e = let z : _≡_ {A = ℕ} 0 1 = cc in absurd (omega arith)
+after-found k s (refused f) b q e = never e
 
 pub then-law : {A B T C U D : Type 0} (s : List ℕ) (strict : Bool) (R : Rule A) (k : A → Rule B) (K : Carrier T C) (L : Carrier U D) (S : Shape T C) (G : C → Shape U D) (M : C → A → Type 0) (N : C × D → B → Type 0)
     → Law s strict R K S M → ((c : C) (a : A) → M c a → Law s strict (k a) L (G c) (λ d b. N (c, d) b))
