@@ -8,7 +8,7 @@ use borrow.Author.Tests.{ltb-true}
 use lib.Dec.{ltb, eqb}
 use Rattle.wire.specs.Reading.{Step, found, _>>=_, give, unless, number, tested}
 use Rattle.frames.specs.Frames.{recordOf}
-use Rattle.wire.proofs.Laws.{passed, bound, judged-zero}
+use Rattle.wire.proofs.Laws.{passed, bound, judged-found}
 use Rattle.frames.proofs.Loops.{Reached, reached-none, reached-more, record-found}
 use Rattle.links.specs.Links.{link}
 use Rattle.clusters.specs.Clusters.{entriesOf, startsAt, entryCount, listChecksum, cluster}
@@ -36,7 +36,7 @@ cluster-fits carried file sum s at {r} {p} =
     bound Fits (link file) (λ l. listChecksum carried >>= (λ c. give (row f w l c))) s q₂ (λ l q₃ _.
     bound Fits (listChecksum carried) (λ c. give (row f w l c)) s q₃ (λ c q₄ _ g.
     let same : row f w l c ≡ r = cc in
-    rw (← same) (count-fits sum w (judged-zero (entryCount sum) q (number 8 s q) e))))))
+    rw (← same) (count-fits sum w (judged-found (entryCount sum) q (number 8 s q) e .1))))))
   where
     Fits : ClusterRow → ℕ → Type 0
     Fits r _ = sum + r .entries < 2 ^ 60
@@ -45,7 +45,7 @@ cluster-fits carried file sum s at {r} {p} =
     row f w l c = record { «first_entry» = f; entries = w; «page_list» = l; checksum = c }
 
 pub record-fits : (carried strict : Bool) (file sum : ℕ) (s : List ℕ) (at : ℕ) {r : ClusterRow} {p : ℕ} → recordOf strict (cluster carried file sum) s at ≡ found r p → sum + r .entries < 2 ^ 60
-record-fits carried strict file sum s at = record-found (λ x. sum + x .entries < 2 ^ 60) strict (cluster carried file sum) s at (λ t from q. cluster-fits carried file sum t from)
+record-fits carried strict file sum s at = record-found (λ x. sum + x .entries < 2 ^ 60) strict (cluster carried file sum) s at (λ stop from q. cluster-fits carried file sum _ from)
 
 -- i clusters of the n of a list have been read, and have `sum` entries
 pub record Summed (carried strict : Bool) (file list n : ℕ) (s : List ℕ) (start i at sum : ℕ) : Type 0 where

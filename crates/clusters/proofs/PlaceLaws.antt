@@ -4,19 +4,16 @@ use mathlib.Core.Path.{_≡_, refl, sym, ap, _∙_}
 use mathlib.Core.Bool.{Bool, true, false}
 use mathlib.Core.List.{List}
 use native.Mathlib.Omega.{arith}
-use borrow.Author.Tests.{leb-true}
-use lib.Dec.{eqb, leb}
+use lib.Dec.{leb}
 use lib.ListN.{length, take}
 use Rattle.numbers.specs.Choice.{pick}
 use Rattle.numbers.specs.Numbers.{little, littleIn}
 use Rattle.numbers.proofs.Choice.{clash}
-use Rattle.wire.specs.declared.Kind.the-variants.{Number, Frame, Spare}
-use Rattle.wire.specs.Reading.{Step, found, refused, _>>=_, give, fault, number, judged, tested, accepted}
-use Rattle.wire.proofs.Laws.{never, bound}
-use Rattle.frames.specs.declared.FrameSize.{FrameSize}
-use Rattle.frames.specs.declared.FrameSize.the-variants.{RecordSize, ListSize}
-use Rattle.frames.proofs.Laws.{record-content}
-use Rattle.frames.specs.Frames.{closed, spare, frameSize, recordEnd, recordHead, recordOf}
+use Rattle.wire.specs.declared.Kind.the-variants.{Number, Spare}
+use Rattle.wire.specs.Reading.{Step, found, refused, _>>=_, give, fault, number, tested, accepted}
+use Rattle.wire.proofs.Laws.{pick-found, bound, judged-found}
+use Rattle.frames.proofs.Laws.{head-found, record-content}
+use Rattle.frames.specs.Frames.{closed, spare, recordHead, recordOf}
 use Rattle.locator.specs.Locator.{storedAs, inFile}
 use Rattle.links.specs.Links.{link}
 use Rattle.rows.specs.declared.Link.{Link}
@@ -28,23 +25,12 @@ use Rattle.clusters.specs.Answers.{checksumAt, clusterAt}
 
 number-found : (k : ℕ) (s : List ℕ) (at : ℕ) {v p : ℕ} → number k s at ≡ found v p → (v ≡ littleIn k s at) × (p ≡ at + k)
 unfolding number littleIn
-number-found k s at {v} {p} e = by (leb (at + k) (length s)) e
-  where
-    by : (b : Bool) → pick {A = Step ℕ} b (found (little k s at) (at + k)) (refused (fault 7 Number at)) ≡ found v p → (v ≡ pick b (little k s at) 0) × (p ≡ at + k)
-    by true g = (cc, cc)
-    by false g = never g
-
-judged-was : (verdict : ℕ → ℕ) (at : ℕ) (x : Step ℕ) {v p : ℕ} → judged verdict at x ≡ found v p → x ≡ found v p
-unfolding judged
-judged-was verdict at (found w q) {v} {p} e = by (eqb (verdict w) 0) e
-  where
-    by : (b : Bool) → pick {A = Step ℕ} b (found w q) (refused (fault (verdict w) Number at)) ≡ found v p → found w q ≡ found v p
-    by true g = g
-    by false g = never g
-judged-was verdict at (refused f) e = never e
+number-found k s at {v} {p} e =
+    let (room, was) = pick-found (leb (at + k) (length s)) (found (little k s at) (at + k)) (fault 7 Number at) v p e in
+    rw room (cc, cc)
 
 tested-found : (k : ℕ) (verdict : ℕ → ℕ) (s : List ℕ) (at : ℕ) {v p : ℕ} → tested k verdict s at ≡ found v p → (v ≡ littleIn k s at) × (p ≡ at + k)
-tested-found k verdict s at e = number-found k s at (judged-was verdict at (number k s at) e)
+tested-found k verdict s at e = number-found k s at (judged-found verdict at (number k s at) e .0)
 
 -- links and checksums
 
@@ -119,18 +105,4 @@ record-there carried strict file sum s at {start} {stop} head there =
 
 -- the content of a record starts inside the bytes
 pub starts-inside : (s : List ℕ) (at : ℕ) {start stop : ℕ} → recordHead s at ≡ found start stop → start ≤ length s
-unfolding recordHead
-starts-inside s at {start} {stop} e = by (leb (at + 4) (length s)) refl e
-  where
-    ended : (a b : Bool) (n : ℕ) → pick {A = Step ℕ} a (pick b (found (at + 4) (at + n)) (refused (fault 7 Frame at))) (refused (fault 8 Frame at)) ≡ found start stop → start ≡ at + 4
-    ended true true n g = cc
-    ended true false n g = never g
-    ended false b n g = never g
-
-    sized : (z : FrameSize) → recordEnd s at z ≡ found start stop → start ≡ at + 4
-    sized (RecordSize n) g = ended (leb 4 n) (leb (at + n) (length s)) n g
-    sized (ListSize n) g = never g
-
-    by : (b : Bool) → leb (at + 4) (length s) ≡ b → pick {A = Step ℕ} b (recordEnd s at (frameSize (little 4 s at))) (refused (fault 7 Frame at)) ≡ found start stop → start ≤ length s
-    by true room g = let is = sized (frameSize (little 4 s at)) g in omega (arith, is, leb-true (at + 4) (length s) room)
-    by false room g = never g
+starts-inside s at e = let (room, starts, _) = head-found s at e in omega (arith, room, starts)

@@ -13,7 +13,7 @@ use lib.Dec.{ltb}
 use borrow.Author.Tests.{ltb-true, ltb-false, lt-ltb, le-ltb}
 use lib.Bits.{bitOr, or-lt, or-add-and, and-le-l, and-le-r}
 use Rattle.numbers.specs.Choice.{both}
-use Rattle.numbers.proofs.Choice.{both-true, both-right}
+use Rattle.numbers.proofs.Choice.{both-true, both-assoc, both-right}
 use Rattle.coding.specs.Inverses.{Below}
 use Rattle.coding.specs.Layout.{fit, FitsAs}
 
@@ -86,10 +86,6 @@ fit-append : (w : ℕ) (xs ys : List ℕ) → both (fit w xs) (fit w ys) ≡ fit
 unfolding fit
 fit-append w [] ys = refl
 fit-append w (x ∷ xs) ys = both-assoc (ltb x (2 ^ w)) (fit w xs) (fit w ys) ∙ ap (both (ltb x (2 ^ w))) (fit-append w xs ys)
-  where
-    both-assoc : (a b c : Bool) → both (both a b) c ≡ both a (both b c)
-    both-assoc true b c = refl
-    both-assoc false b c = refl
 
 pub joined-none : FitsAs 0 []
 unfolding fit

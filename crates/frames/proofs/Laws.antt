@@ -1,22 +1,37 @@
 -- Laws of frames and lists, which the proofs of this crate and of those above it cite.
-use Prim.Native.Nat.{ℕ, _+_, _≤_}
+use Prim.Native.Nat.{ℕ, _+_, _-_, _^_, _≤_}
 use mathlib.Core.Path.{_≡_, refl, sym}
 use mathlib.Core.Bool.{Bool, true, false}
 use mathlib.Core.List.{List}
 use native.Mathlib.Omega.{arith}
 use lib.ListN.{length, take}
-use lib.Dec.{leb, eqb}
+use lib.Dec.{leb, ltb, eqb}
 use borrow.Author.Tests.{leb-true, eqb-true}
 use Rattle.numbers.specs.Choice.{pick}
-use Rattle.numbers.specs.Numbers.{little}
+use Rattle.numbers.specs.Numbers.{little, littleIn}
 use Rattle.wire.specs.declared.Fault.{Fault}
 use Rattle.wire.specs.declared.Kind.the-variants.{Frame, Spare}
 use Rattle.frames.specs.declared.ListHead.{ListHead}
 use Rattle.frames.specs.declared.FrameSize.{FrameSize}
 use Rattle.frames.specs.declared.FrameSize.the-variants.{RecordSize, ListSize}
 use Rattle.wire.specs.Reading.{Step, found, refused, Rule, mapped, fault, counted}
-use Rattle.frames.specs.Frames.{frameSize, recordHead, recordOf, listEnd, listStop, countJudged, closedBy, closed, spare, atMost}
-use Rattle.wire.proofs.Laws.{never, passed}
+use Rattle.frames.specs.Frames.{frameSize, recordEnd, recordHead, recordOf, listEnd, listStop, countJudged, closedBy, closed, spare, atMost}
+use Rattle.wire.proofs.Laws.{never, passed, pick-found}
+
+-- a record's head that was found: it is there, its content starts behind it, and the record stops where its size says
+pub head-found : (s : List ℕ) (at : ℕ) {start stop : ℕ} → recordHead s at ≡ found start stop → (at + 4 ≤ length s) × (start ≡ at + 4) × (stop ≡ at + littleIn 4 s at)
+unfolding recordHead littleIn frameSize
+head-found s at {start} {stop} e =
+    let (room, g) = pick-found (leb (at + 4) (length s)) _ _ start stop e in
+    let (starts, stops) = sized (little 4 s at) (ltb (little 4 s at) (2 ^ 31)) g in
+    (leb-true (at + 4) (length s) room, starts, rw room stops)
+  where
+    sized : (word : ℕ) (b : Bool) → recordEnd s at (pick b (RecordSize word) (ListSize (2 ^ 32 - word))) ≡ found start stop → (start ≡ at + 4) × (stop ≡ at + word)
+    sized word true g =
+        let (_, e₁) = pick-found (leb 4 word) _ _ start stop g in
+        let (_, e₂) = pick-found (leb (at + word) (length s)) _ _ start stop e₁ in
+        (cc, cc)
+    sized word false g = never g
 
 -- a step that is found has at least 8 bytes from a place on
 abbrev pub Eight : List ℕ → ℕ → Step ℕ → Type 0

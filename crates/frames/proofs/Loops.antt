@@ -16,6 +16,7 @@ use Rattle.numbers.specs.Choice.{pick}
 use Rattle.numbers.proofs.Choice.{clash}
 use Rattle.frames.specs.declared.ListHead.{ListHead}
 use Rattle.numbers.specs.Lists.{Each}
+use Rattle.numbers.proofs.Lists.{each-append}
 use Rattle.numbers.specs.Rows.{put, flat, flatBy, over}
 use Rattle.rows.proofs.TableLaws.{flat-is, Holds, holds-none, holds-more}
 
@@ -146,10 +147,6 @@ list-most {A} strict most r s at {rows} {p} e = by (listHead (atMost most) s at)
 
 -- a fact of every row
 
-each-snoc : {A : Type 0} (P : A → Type 0) (xs : List A) (x : A) → Each P xs → P x → Each P (xs ++ (x ∷ []))
-each-snoc P [] x e p = (p, tt)
-each-snoc P (y ∷ ys) x e p = (e .0, each-snoc P ys x (e .1) p)
-
 module _ {A : Type 0} (P : A → Type 0) (head : ℕ) (r : List A → Rule A) (s : List ℕ) (rule : (done : List A) (at : ℕ) (x : A) (p : ℕ) → r done s at ≡ found x p → P x) where
   pub items-each : (n : ℕ) (done : List A) (at : ℕ) {rows : List A} {p : ℕ} → Each P done → items head r n done s at ≡ found rows p → Each P rows
   unfolding items
@@ -158,22 +155,22 @@ module _ {A : Type 0} (P : A → Type 0) (head : ℕ) (r : List A → Rule A) (s
     where
       by : ((done : List A) (at : ℕ) → Each P done → items head r n done s at ≡ found rows p → Each P rows) → (x : Step A) → r done s at ≡ x
           → after (λ x. items head r n (done ++ (x ∷ []))) s (within head (length done) x) ≡ found rows p → Each P rows
-      by more (found x q) g w = more (done ++ (x ∷ [])) q (each-snoc P done x each (rule done at x q g)) w
+      by more (found x q) g w = more (done ++ (x ∷ [])) q (each-append P done (x ∷ []) each (rule done at x q g, tt)) w
       by more (refused f) g w = never w
 
 -- a record that was found has a content that was
 pub record-found : {A : Type 0} (P : A → Type 0) (strict : Bool) (r : Rule A) (s : List ℕ) (at : ℕ) {x : A} {p : ℕ}
-    → ((t : List ℕ) (from : ℕ) (q : ℕ) → r t from ≡ found x q → P x) → recordOf strict r s at ≡ found x p → P x
+    → ((stop from q : ℕ) → r (take stop s) from ≡ found x q → P x) → recordOf strict r s at ≡ found x p → P x
 unfolding recordOf
 record-found P strict r s at {x} {p} rule e = by (recordHead s at) e
   where
     by : (h : Step ℕ) → recordBody strict r s h ≡ found x p → P x
-    by (found start stop) g = let k = closed-found (λ f. f) strict stop (r (take stop s) start) g in rule (take stop s) start (k .end) (k .was)
+    by (found start stop) g = let k = closed-found (λ f. f) strict stop (r (take stop s) start) g in rule stop start (k .end) (k .was)
     by (refused f) g = never g
 
 -- every row of a list that was found
 module _ {A : Type 0} (P : ℕ → A → Type 0) (strict : Bool) (verdict : ℕ → ℕ) (r : ℕ → List A → Rule A) (s : List ℕ) (at : ℕ)
-    (rule : (n : ℕ) (done : List A) (t : List ℕ) (from : ℕ) (x : A) (p : ℕ) → r n done t from ≡ found x p → P n x) where
+    (rule : (n : ℕ) (done : List A) (stop from : ℕ) (x : A) (p : ℕ) → r n done (take stop s) from ≡ found x p → P n x) where
   pub list-each : {rows : List A} {p : ℕ} → listOf strict verdict r s at ≡ found rows p → Each (P (length rows)) rows
   unfolding listOf
   list-each {rows} {p} e = by (listHead verdict s at) refl
@@ -183,7 +180,7 @@ module _ {A : Type 0} (P : ℕ → A → Type 0) (strict : Bool) (verdict : ℕ 
           let a : accepted (listOf strict verdict r s at) ≡ true = rw e in
           let n : length rows ≡ h .count = rw e at (list-count strict verdict r s at g a) in
           let k = closed-found (inItem at (h .count)) strict stop (items at (r (h .count)) (h .count) [] (take stop s) (h .start)) (sym (list-is strict verdict r s at g) ∙ e) in
-          rw n (items-each (P (h .count)) at (r (h .count)) (take stop s) (λ done from x q. rule (h .count) done (take stop s) from x q) (h .count) [] (h .start) tt (k .was))
+          rw n (items-each (P (h .count)) at (r (h .count)) (take stop s) (λ done from x q. rule (h .count) done stop from x q) (h .count) [] (h .start) tt (k .was))
       by (refused f) g = let w : listOf strict verdict r s at ≡ refused f = rw g in never (sym w ∙ e)
 
 -- the count of a list that was found has passed its verdict

@@ -1,24 +1,23 @@
 -- What a header that was read has: how its envelope and payload were read, and the bounds of its numbers.
-use Prim.Native.Nat.{ℕ, zero, suc, _+_, _-_, _/_, _≤_, _<_}
+use Prim.Native.Nat.{ℕ, _+_, _-_, _/_, _≤_, _<_}
 use mathlib.Core.Path.{_≡_, refl, sym, ap, subst, _∙_}
-use mathlib.Core.Bool.{Bool, true, false}
-use mathlib.Core.List.{List, [], _∷_}
-use native.Mathlib.Omega.{arith}
+use mathlib.Core.Bool.{Bool, true}
+use mathlib.Core.List.{List}
 use borrow.Author.Tests.{leb-true, le-leb}
 use lib.Dec.{leb, eqb}
 use lib.ListN.{length, getD, take}
-use Rattle.numbers.specs.Choice.{pick, both}
+use Rattle.numbers.specs.Choice.{both}
 use Rattle.numbers.specs.Numbers.{little}
 use Rattle.checksum.specs.Crc.{crc32}
 use Rattle.wire.specs.declared.Fault.{Fault}
-use Rattle.wire.specs.declared.Kind.the-variants.{Envelope}
-use Rattle.wire.specs.Reading.{Step, found, refused, Rule, fault}
-use Rattle.wire.proofs.Laws.{never}
+use Rattle.wire.specs.Reading.{Step, found, refused, Rule}
+use Rattle.wire.proofs.Laws.{never, pick-found}
 use Rattle.frames.specs.Frames.{listOf, listStop, countJudged, recordOf}
 use Rattle.frames.proofs.Laws.{list-room, closed-found}
 use Rattle.frames.proofs.Loops.{list-most}
 use Rattle.numbers.specs.Lists.{Each}
-use Rattle.envelope.specs.Envelope.{ceiling, checksumOf, versionsOf, whole, opened, enclosed, versioned, envelope, Versions}
+use Rattle.numbers.proofs.Lists.{each-at}
+use Rattle.envelope.specs.Envelope.{ceiling, checksumOf, whole, opened, enclosed, versioned, envelope, Versions}
 use Rattle.rows.specs.Words.{mostFields, mostColumns, mostAliases, fieldWidth, columnWidth, aliasWidth, fullFields, fullColumns, fullAliases}
 use Rattle.rows.specs.declared.FieldRow.{FieldRow}
 use Rattle.rows.specs.declared.ColumnRow.{ColumnRow}
@@ -30,7 +29,7 @@ use Rattle.header.specs.Header.{Header, flagsOf, lists, payload}
 use Rattle.header.specs.Tables.{endlessFault, chained, headerOf, parentsOf, roomFor}
 use Rattle.header.proofs.ListLaws.{Parts, lists-parts}
 use Rattle.header.proofs.PayloadLaws.{texts-refused, payload-lists}
-use Rattle.header.proofs.BoundLaws.{parents-below, columns-below, bits-below, each-map}
+use Rattle.header.proofs.BoundLaws.{parents-below, columns-below, bits-below, map-below}
 
 -- the lists of a payload, where they stand
 pub payload-parts : (strict : Bool) (s : List ℕ) {h : Header} {p : ℕ} → payload strict s 4 ≡ found h p → lists strict s (h .lists .fieldsAt) ≡ found (h .lists) p
@@ -58,27 +57,13 @@ chained-refused s e = rw e
 -- an envelope that was opened has its checksum where its payload ends
 pub opened-end : (supported : ℕ) (e : List ℕ) {v : Versions} {stop : ℕ} → opened supported e ≡ found v stop → (8 ≤ length e) × (stop ≡ length e - 4)
 unfolding opened
-opened-end supported e {v} {stop} o = one (leb (length e) ceiling) o
-  where
-    five : (b : Bool) → 8 ≤ length e → pick {A = Step Versions} b (found (versionsOf e) (length e - 4)) (refused (fault 5 Envelope 0)) ≡ found v stop → (8 ≤ length e) × (stop ≡ length e - 4)
-    five true h w = (h, cc)
-    five false h w = never w
-
-    four : (b : Bool) → 8 ≤ length e → pick {A = Step Versions} b (pick (leb (little 2 e 2) supported) (found (versionsOf e) (length e - 4)) (refused (fault 5 Envelope 0))) (refused (fault 4 Envelope 0)) ≡ found v stop → (8 ≤ length e) × (stop ≡ length e - 4)
-    four true h w = five (leb (little 2 e 2) supported) h w
-    four false h w = never w
-
-    three : (b : Bool) → 8 ≤ length e → pick {A = Step Versions} b (pick (both (leb 1 (little 2 e 2)) (leb (little 2 e 2) (little 2 e 0))) (pick (leb (little 2 e 2) supported) (found (versionsOf e) (length e - 4)) (refused (fault 5 Envelope 0))) (refused (fault 4 Envelope 0))) (refused (fault 3 Envelope 0)) ≡ found v stop → (8 ≤ length e) × (stop ≡ length e - 4)
-    three true h w = four (both (leb 1 (little 2 e 2)) (leb (little 2 e 2) (little 2 e 0))) h w
-    three false h w = never w
-
-    two : (b : Bool) → leb 8 (length e) ≡ b → pick {A = Step Versions} b (pick (eqb (crc32 (take (length e - 4) e)) (checksumOf e)) (pick (both (leb 1 (little 2 e 2)) (leb (little 2 e 2) (little 2 e 0))) (pick (leb (little 2 e 2) supported) (found (versionsOf e) (length e - 4)) (refused (fault 5 Envelope 0))) (refused (fault 4 Envelope 0))) (refused (fault 3 Envelope 0))) (refused (fault 2 Envelope 0)) ≡ found v stop → (8 ≤ length e) × (stop ≡ length e - 4)
-    two true g w = three (eqb (crc32 (take (length e - 4) e)) (checksumOf e)) (leb-true 8 (length e) g) w
-    two false g w = never w
-
-    one : (b : Bool) → pick {A = Step Versions} b (pick (leb 8 (length e)) (pick (eqb (crc32 (take (length e - 4) e)) (checksumOf e)) (pick (both (leb 1 (little 2 e 2)) (leb (little 2 e 2) (little 2 e 0))) (pick (leb (little 2 e 2) supported) (found (versionsOf e) (length e - 4)) (refused (fault 5 Envelope 0))) (refused (fault 4 Envelope 0))) (refused (fault 3 Envelope 0))) (refused (fault 2 Envelope 0))) (refused (fault 1 Envelope 0)) ≡ found v stop → (8 ≤ length e) × (stop ≡ length e - 4)
-    one true w = two (leb 8 (length e)) refl w
-    one false w = never w
+opened-end supported e {v} {stop} o =
+    let (_, e₁) = pick-found (leb (length e) ceiling) _ _ v stop o in
+    let (eight, e₂) = pick-found (leb 8 (length e)) _ _ v stop e₁ in
+    let (_, e₃) = pick-found (eqb (crc32 (take (length e - 4) e)) (checksumOf e)) _ _ v stop e₂ in
+    let (_, e₄) = pick-found (both (leb 1 (little 2 e 2)) (leb (little 2 e 2) (little 2 e 0))) _ _ v stop e₃ in
+    let (_, e₅) = pick-found (leb (little 2 e 2) supported) _ _ v stop e₄ in
+    (leb-true 8 (length e) eight, cc)
 
 -- an envelope
 
@@ -95,12 +80,10 @@ header-refused e o = rw o
 
 chained-found : (s : List ℕ) (x : Step Header) {h : Header} {p : ℕ} → chained s x ≡ found h p → (x ≡ found h p) × (allReach (parentsOf (h .lists .fields)) (length (h .lists .fields)) ≡ true)
 unfolding chained
-chained-found s (found g q) {h} {p} e = by (allReach (parentsOf (g .lists .fields)) (length (g .lists .fields))) refl e
-  where
-    by : (b : Bool) → allReach (parentsOf (g .lists .fields)) (length (g .lists .fields)) ≡ b → pick {A = Step Header} b (found g q) (refused (endlessFault s (g .lists))) ≡ found h p
-        → (found g q ≡ found h p) × (allReach (parentsOf (h .lists .fields)) (length (h .lists .fields)) ≡ true)
-    by true t w = let same : g ≡ h = cc in (w, rw same at t)
-    by false t w = never w
+chained-found s (found g q) {h} {p} e =
+    let (reach, same) = pick-found (allReach (parentsOf (g .lists .fields)) (length (g .lists .fields))) (found g q) (endlessFault s (g .lists)) h p e in
+    let header : g ≡ h = cc in
+    (same, rw header at reach)
 chained-found s (refused f) e = never e
 
 -- a payload that was read: how, and its three lists
@@ -131,7 +114,7 @@ payload-read e {h} {p} w = by (opened 1 e) refl w
 pub payload-inside : (e : List ℕ) {h : Header} {p : ℕ} → envelope 1 payload e ≡ found h p → Inside (parentsOf (h .lists .fields)) (length (h .lists .fields))
 payload-inside e {h} w =
     let r = payload-read e w in
-    each-map (λ (r : FieldRow). r .head .parent .0) (length (h .lists .fields)) (h .lists .fields) (parents-below (r .versions .strict) (take (r .stop) e) (h .lists .fieldsAt) (r .parts .fieldsAre))
+    map-below (λ (r : FieldRow). r .head .parent .0) (length (h .lists .fields)) (h .lists .fields) (parents-below (r .versions .strict) (take (r .stop) e) (h .lists .fieldsAt) (r .parts .fieldsAre))
 
 pub header-payload : (e : List ℕ) {h : Header} {p : ℕ} → headerOf e ≡ found h p → envelope 1 payload e ≡ found h p
 unfolding headerOf
@@ -143,11 +126,6 @@ header-reaches e w = chained-found (take (length e - 4) e) (envelope 1 payload e
 
 pub header-read : (e : List ℕ) {h : Header} {p : ℕ} → headerOf e ≡ found h p → PayloadRead e h
 header-read e w = payload-read e (header-payload e w)
-
-each-at : {A : Type 0} (P : A → Type 0) (d : A) (rows : List A) → Each P rows → (i : ℕ) → i < length rows → P (getD rows i d)
-each-at P d [] each i h = absurd (omega arith)
-each-at P d (r ∷ rows) each zero h = each .0
-each-at P d (r ∷ rows) each (suc i) h = each-at P d rows (each .1) i (omega arith)
 
 module _ (e : List ℕ) {h : Header} {p : ℕ} (w : headerOf e ≡ found h p) where
   pub fields-few : length (h .lists .fields) ≤ mostFields
@@ -185,4 +163,4 @@ module _ (e : List ℕ) {h : Header} {p : ℕ} (w : headerOf e ≡ found h p) wh
 
   -- of column i
   pub bits-small : Bytes e → (d : ColumnRow) (i : ℕ) → i < length (h .lists .columns) → getD (h .lists .columns) i d .bits < 65536
-  bits-small b d = each-at (λ (r : ColumnRow). r .bits < 65536) d (h .lists .columns) (column-sizes b)
+  bits-small b d i = each-at (λ (r : ColumnRow). r .bits < 65536) (h .lists .columns) d i (column-sizes b)

@@ -1,5 +1,5 @@
 -- The records of a list that was found stand one after the other, each where the sizes of those before it say.
-use Prim.Native.Nat.{ℕ, zero, suc, _+_, _-_, _^_, _<_}
+use Prim.Native.Nat.{ℕ, zero, suc, _+_, _^_, _<_}
 use mathlib.Core.Path.{_≡_, refl, sym, ap, subst, _∙_}
 use mathlib.Core.Bool.{Bool, true, false}
 use mathlib.Core.List.{List, [], _∷_, _++_, append-assoc, append-nil}
@@ -14,11 +14,11 @@ use Rattle.wire.specs.declared.Fault.{Fault}
 use Rattle.wire.specs.declared.Kind.the-variants.{Frame, Spare}
 use Rattle.wire.specs.Reading.{Step, found, refused, Rule, fault, inItem, after, accepted}
 use Rattle.wire.proofs.Laws.{never}
-use Rattle.frames.specs.Frames.{frameSize, recordEnd, recordHead, recordBody, recordOf, closedBy, spare, within, items, listOf, listHead, listCount, listEnd, listStop, countJudged, atMost}
+use Rattle.frames.specs.Frames.{frameSize, recordHead, recordBody, recordOf, closedBy, spare, within, items, listOf, listHead, listCount, listEnd, listStop, countJudged, atMost}
 use Rattle.frames.specs.declared.ListHead.{ListHead}
 use Rattle.frames.specs.declared.FrameSize.{FrameSize}
 use Rattle.frames.specs.declared.FrameSize.the-variants.{RecordSize, ListSize}
-use Rattle.frames.proofs.Laws.{closed-found}
+use Rattle.frames.proofs.Laws.{head-found, closed-found}
 use Rattle.frames.proofs.Loops.{list-is, list-count}
 use Rattle.frames.proofs.Cut.{record-cut}
 use Rattle.records.specs.Records.{field}
@@ -28,24 +28,6 @@ use Rattle.header.specs.Tables.{recordAt}
 use Rattle.header.specs.Statements.{RecordPlaces}
 
 -- a record stops where its size says
-
-head-stop : (s : List ℕ) (at : ℕ) {start stop : ℕ} → recordHead s at ≡ found start stop → stop ≡ at + littleIn 4 s at
-unfolding recordHead littleIn frameSize
-head-stop s at {start} {stop} e = by (leb (at + 4) (length s)) e
-  where
-    room : (size : ℕ) (b d : Bool) → pick {A = Step ℕ} b (pick d (found (at + 4) (at + size)) (refused (fault 7 Frame at))) (refused (fault 8 Frame at)) ≡ found start stop → stop ≡ at + size
-    room size true true g = cc
-    room size true false g = never g
-    room size false d g = never g
-
-    sized : (word : ℕ) (b : Bool) → recordEnd s at (pick b (RecordSize word) (ListSize (2 ^ 32 - word))) ≡ found start stop → stop ≡ at + word
-    sized word true g = room word (leb 4 word) (leb (at + word) (length s)) g
-    sized word false g = never g
-
-    by : (b : Bool) → pick {A = Step ℕ} b (recordEnd s at (pick (ltb (little 4 s at) (2 ^ 31)) (RecordSize (little 4 s at)) (ListSize (2 ^ 32 - little 4 s at)))) (refused (fault 7 Frame at)) ≡ found start stop
-        → stop ≡ at + pick b (little 4 s at) 0
-    by true g = sized (little 4 s at) (ltb (little 4 s at) (2 ^ 31)) g
-    by false g = never g
 
 closed-stop : {A : Type 0} (mark : Fault → Fault) (strict : Bool) (stop : ℕ) (x : Step A) {a : A} {p : ℕ} → closedBy mark strict stop x ≡ found a p → p ≡ stop
 closed-stop {A} mark strict stop (found b q) {a} {p} e = by (spare strict q stop) e
@@ -60,7 +42,7 @@ unfolding recordOf
 record-stop strict r s at {x} {q} e = by (recordHead s at) refl e
   where
     by : (h : Step ℕ) → recordHead s at ≡ h → recordBody strict r s h ≡ found x q → q ≡ at + littleIn 4 s at
-    by (found start stop) g w = closed-stop (λ f. f) strict stop (r (take stop s) start) w ∙ head-stop s at g
+    by (found start stop) g w = closed-stop (λ f. f) strict stop (r (take stop s) start) w ∙ head-found s at g .2
     by (refused f) g w = never w
 
 -- the items that are done come first among all

@@ -5,18 +5,12 @@ use mathlib.Core.List.{List, [], _∷_, _++_, append-assoc, append-nil}
 use native.Mathlib.Nat.{add-zero, zero-add, mul-zero, mul-suc}
 use native.Mathlib.Omega.{arith}
 use native.Mathlib.Numerals.{add-one}
-use lib.ListN.{length, take, drop, set, replicate, replicate-append-replicate, length-append, length-drop}
+use lib.ListN.{length, take, set, replicate, replicate-append-replicate, length-append}
 use lib.Seq.{take-suc-set}
 use Rattle.numbers.specs.Rows.{put, flat, over}
+use Rattle.numbers.proofs.Parts.{over-length}
 use Rattle.rows.proofs.TableLaws.{over-put}
 use Rattle.header_lists.specs.Kept.{laid}
-
--- a table is as long as it was
-pub over-long : (words old : List ℕ) → length words ≤ length old → length (over words old) ≡ length old
-over-long words old fits =
-    let a = length-append words (drop (length words) old) in
-    let d = length-drop (length words) old in
-    omega arith
 
 module _ {A : Type 0} (width : ℕ) (w : A → List ℕ) where
   -- one row more
@@ -37,7 +31,7 @@ module _ {A : Type 0} (width : ℕ) (w : A → List ℕ) where
       let m : width * suc i ≡ width * i + width = omega (arith, mul-suc width i) in
       let k : width * suc (length rest) ≡ width * length rest + width = omega (arith, mul-suc width (length rest)) in
       let j = length-append front (w a) in
-      let o = over-long front old (omega arith) in
+      let o = over-length front old (omega arith) in
       rw (← size, over-put front (w a) old (omega arith)) (laid-after each (suc i) (front ++ w a) rest old (omega arith) (omega arith) ∙ ap (λ (v : List ℕ). over v old) (append-assoc front (w a) (flat w rest)))
 
   pub laid-over : ((a : A) → length (w a) ≡ width) → (rows : List A) (old : List ℕ) → width * length rows ≤ length old → laid width w 0 rows old ≡ over (flat w rows) old

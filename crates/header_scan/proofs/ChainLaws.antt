@@ -23,7 +23,7 @@ use Rattle.parents.specs.declared.Chains.the-variants.{AllEnd, Endless}
 use Rattle.header.specs.Header.{Header, lists, payload}
 use Rattle.header.specs.Tables.{chainFault, endlessFault, chained, parentsOf}
 use Rattle.header.proofs.ListLaws.{Parts, lists-parts}
-use Rattle.header.proofs.BoundLaws.{parents-below, each-map}
+use Rattle.header.proofs.BoundLaws.{parents-below, map-below}
 use Rattle.header.proofs.HeaderLaws.{payload-parts, list-room-of, chained-refused}
 use Rattle.header_payload.specs.Answers.{scanOf}
 use Rattle.header_payload.specs.Settled.{kept, Settled}
@@ -75,7 +75,7 @@ module _ (strict : Bool) (s : List ℕ) {p₀ p f₀ f r₀ r c₀ c a₀ a : Li
     inside : Inside (parentsOf (m .value .lists .fields)) (scan .lists .fields)
     inside i h =
         let n = count in
-        let b = each-map (λ (r : FieldRow). r .head .parent .0) (length (m .value .lists .fields)) (m .value .lists .fields) (parents-below strict s (scan .lists .«fields_at») (parts .fieldsAre)) i (omega arith) in
+        let b = map-below (λ (r : FieldRow). r .head .parent .0) (length (m .value .lists .fields)) (m .value .lists .fields) (parents-below strict s (scan .lists .«fields_at») (parts .fieldsAre)) i (omega arith) in
         omega arith
 
     -- the head of the list of fields lies in the bytes

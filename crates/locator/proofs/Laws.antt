@@ -5,7 +5,7 @@ use mathlib.Core.List.{List}
 use lib.Dec.{ltb, eqb}
 use borrow.Author.Tests.{ltb-true}
 use Rattle.wire.specs.Reading.{Step, found, refused, Rule, after, _>>=_, give, number, tested, unless}
-use Rattle.wire.proofs.Laws.{passed, judged-zero}
+use Rattle.wire.proofs.Laws.{passed, judged-found}
 use Rattle.locator.specs.declared.Range.{Range}
 use Rattle.locator.specs.Locator.{storedAs, inFile, located, locator}
 
@@ -25,4 +25,4 @@ located-by {A} file size behind rest s at = first (tested 4 (storedAs size) s at
 -- a stored size that was found
 pub stored-few : (size : ℕ) (s : List ℕ) (at : ℕ) {v p : ℕ} → tested 4 (storedAs size) s at ≡ found v p → v < 2 ^ 31
 stored-few size s at {v} e =
-    ltb-true v (2 ^ 31) (passed (ltb v (2 ^ 31)) 16 (unless (eqb v size) 17 0) (judged-zero (storedAs size) at (number 4 s at) e) .0)
+    ltb-true v (2 ^ 31) (passed (ltb v (2 ^ 31)) 16 (unless (eqb v size) 17 0) (judged-found (storedAs size) at (number 4 s at) e .1) .0)

@@ -5,16 +5,20 @@ use mathlib.Core.List.{List, [], _∷_, _++_, append-assoc, append-nil}
 use Prim.Native.Nat.{ℕ, zero, suc, _+_, _-_, _≤_}
 use native.Mathlib.Nat.{le-of-eq}
 use native.Mathlib.Omega.{arith}
-use lib.ListN.{length, take, drop, length-drop, drop-of-length-le}
+use lib.ListN.{length, take, drop, length-append, length-drop, drop-of-length-le}
 use lib.Seq.{take-all, length-take-le, drop-drop}
 use borrow.Author.Tests.{le-leb}
 use borrow.Rule.Slice.PartMut.{putMid}
-use Rattle.numbers.specs.Rows.{put}
+use Rattle.numbers.specs.Rows.{put, over}
 
 pub cut-length : (stop : ℕ) (s : List ℕ) → (length (take stop s) ≤ stop) × (length (take stop s) ≤ length s)
 cut-length zero s = (omega arith, omega arith)
 cut-length (suc n) [] = (omega arith, omega arith)
 cut-length (suc n) (x ∷ xs) = let r = cut-length n xs in (omega arith, omega arith)
+
+-- a table that holds words in front is as long as it was
+pub over-length : (words old : List ℕ) → length words ≤ length old → length (over words old) ≡ length old
+over-length words old h = omega (arith, length-append words (drop (length words) old), length-drop (length words) old)
 
 pub rest-of : (start : ℕ) (old : List ℕ) → take (length old - start) (drop start old) ≡ drop start old
 rest-of start old = take-all (length old - start) (drop start old) (le-of-eq (length-drop start old))

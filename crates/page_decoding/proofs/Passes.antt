@@ -8,11 +8,12 @@ use native.Mathlib.Nat.{mul-add, mul-assoc, suc-mul, pow-suc, div-eq-of-lt, div-
 use native.Mathlib.Numerals.{add-one}
 use native.Mathlib.Omega.{arith}
 use lib.Dec.{ltb}
-use lib.ListN.{length, take, drop, getD, replicate, length-append, length-drop, length-replicate, getD-replicate, List·getD-append}
+use lib.ListN.{length, take, drop, getD, replicate, length-drop, length-replicate, getD-replicate, List·getD-append}
 use lib.Seq.{length-take-le, getD-take, getD-drop, getD-append-add, ext-getD}
 use borrow.Author.Tests.{ltb-false}
 use Rattle.numbers.specs.Rows.{over}
 use Rattle.numbers.specs.Choice.{pick}
+use Rattle.numbers.proofs.Parts.{over-length}
 use Rattle.planes.specs.Plane.{withByte, cleared}
 use Rattle.planes.proofs.Joined.{length-joined, getD-joined, getD-behind}
 use Rattle.planes.proofs.Words.{with-byte-over, power-positive}
@@ -25,9 +26,6 @@ use Rattle.coding.proofs.Planes.{length-unplanes}
 use Rattle.coding.proofs.Strided.{strided-add, strided-single, strided-below, getD-unplanes}
 
 -- what stands in a list written over another
-
-length-over : (l d : List ℕ) → length l ≤ length d → length (over l d) ≡ length d
-length-over l d h = length-append l (drop (length l) d) ∙ omega (arith, length-drop (length l) d)
 
 over-front : (l d : List ℕ) (i : ℕ) → i < length l → getD (over l d) i 0 ≡ getD l i 0
 over-front l d i h = List·getD-append l (drop (length l) d) 0 i h
@@ -102,7 +100,7 @@ pub start-is : (k n : ℕ) (ws new : List ℕ) → n ≤ length ws → new ≡ c
 start-is k n ws new h e = ap₂ (λ (l : List ℕ) (m : ℕ). l ++ drop m ws) e (sym (length-cleared k (take n ws) ∙ length-take-le n ws h))
 
 pub start-long : (k n : ℕ) (ws : List ℕ) → n ≤ length ws → length (over (cleared k (take n ws)) ws) ≡ length ws
-start-long k n ws h = length-over (cleared k (take n ws)) ws (omega (arith, length-cleared k (take n ws), length-take-le n ws h))
+start-long k n ws h = over-length (cleared k (take n ws)) ws (omega (arith, length-cleared k (take n ws), length-take-le n ws h))
 
 nothing-above : (k : ℕ) (ws : List ℕ) → k ≤ 8 → Below (256 ^ 8) ws → (i : ℕ) → i < length ws → getD (cleared k ws) i 0 / 256 ^ k ≡ 0
 unfolding cleared
@@ -136,7 +134,7 @@ planes-in-turn k n page ws small room lent octets words =
     long = start-long k n ws lent
 
     over-long : length (over (unplanes k n page) ws) ≡ length ws
-    over-long = length-over (unplanes k n page) ws (omega (arith, n-numbers))
+    over-long = over-length (unplanes k n page) ws (omega (arith, n-numbers))
 
     enough : n ≤ length start
     enough = omega (arith, long)

@@ -5,9 +5,10 @@ use mathlib.Core.Bool.{Bool, true}
 use mathlib.Core.List.{List, [], _∷_, map}
 use native.Mathlib.Omega.{arith}
 use borrow.Author.Tests.{le-leb, lt-leb}
-use lib.ListN.{length, take, drop, replicate, length-append, length-drop, length-map}
+use lib.ListN.{length, take, replicate, length-map}
 use lib.Seq.{take-at}
 use Rattle.numbers.specs.Rows.{over}
+use Rattle.numbers.proofs.Parts.{over-length}
 use Rattle.wire.specs.declared.Fault.{Fault}
 use Rattle.wire.specs.declared.NumberStep.the-variants.{Found, Refused as Missed}
 use Rattle.wire.specs.Reading.{Step, found, refused, accepted, rowsOf}
@@ -38,10 +39,6 @@ use Rattle.page_list.specs.declared.PageListAnswer.the-variants.{Accepte
 pub beside-refused : {x : Beside (List (List PageRow))} {k : ℕ} {f : Fault} (p : List ℕ) → x ≡ refusal k f → Answered x p p (Refused k (f .number))
 unfolding answer written
 beside-refused p e = record { answers = rw e; reports = rw e; pagesAre = rw e }
-
--- a table that holds words in front is as long as it was
-pub over-length : (words old : List ℕ) → length words ≤ length old → length (over words old) ≡ length old
-over-length words old h = omega (arith, length-append words (drop (length words) old), length-drop (length words) old)
 
 -- what a scan found, or what it refused
 record Scanned (x : Step (List (List PageRow))) (r : Sums) (k q : ℕ) : Type 0 where

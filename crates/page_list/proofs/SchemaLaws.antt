@@ -27,7 +27,7 @@ use Rattle.column_pages.specs.Answers.{bitsIn}
 use Rattle.page_list.specs.PageList.{summed, pageListOf}
 use Rattle.page_list.specs.Tables.{pageListBeside}
 use Rattle.page_list.specs.Schema.{SchemaOf}
-use Rattle.page_list.proofs.ReadLaws.{over-length}
+use Rattle.numbers.proofs.Parts.{over-length}
 
 -- a page list beside a header that was read, and beside one that is refused
 module _ (e list : List ℕ) (entries file : ℕ) where

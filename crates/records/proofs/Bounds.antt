@@ -2,17 +2,15 @@
 -- number of two bytes.
 use Prim.Native.Nat.{ℕ, zero, suc, _+_, _^_, _<_}
 use mathlib.Core.Path.{_≡_}
-use mathlib.Core.Bool.{Bool, true, false}
 use mathlib.Core.List.{List, [], _∷_}
 use native.Mathlib.Omega.{arith}
 use borrow.Author.Tests.{ltb-true}
 use lib.ListN.{length, getD, take}
-use lib.Dec.{ltb, leb, eqb}
-use Rattle.numbers.specs.Choice.{pick}
+use lib.Dec.{ltb, leb}
 use Rattle.numbers.specs.Numbers.{little}
 use Rattle.wire.specs.declared.Kind.the-variants.{Number}
-use Rattle.wire.specs.Reading.{Step, found, refused, Rule, _>>=_, give, fault, number, judged, tested, below, listed}
-use Rattle.wire.proofs.Laws.{never, passed, bound, judged-zero}
+use Rattle.wire.specs.Reading.{Step, found, Rule, _>>=_, give, fault, number, judged, tested, below, listed}
+use Rattle.wire.proofs.Laws.{passed, pick-found, bound, judged-found}
 use Rattle.records.specs.Records.{fieldHead, fieldTexts, field, column, repetition, sized}
 use Rattle.rows.specs.declared.FieldHead.{FieldHead}
 use Rattle.rows.specs.declared.FieldRow.{FieldRow}
@@ -20,7 +18,7 @@ use Rattle.rows.specs.declared.ColumnRow.{ColumnRow}
 
 -- a number that was found below a limit
 pub below-limit : (limit at : ℕ) (x : Step ℕ) {v p : ℕ} → judged (below limit) at x ≡ found v p → v < limit
-below-limit limit at x {v} e = ltb-true v limit (passed (ltb v limit) 13 0 (judged-zero (below limit) at x e) .0)
+below-limit limit at x {v} e = ltb-true v limit (passed (ltb v limit) 13 0 (judged-found (below limit) at x e .1) .0)
 
 -- a field's parent
 
@@ -59,7 +57,7 @@ module _ (n : ℕ) (s : List ℕ) where
 abbrev pub Bytes : List ℕ → Type 0
 Bytes s = (i : ℕ) → getD s i 0 < 256
 
-little-below : (k : ℕ) (s : List ℕ) (at : ℕ) → Bytes s → little k s at < 256 ^ k
+pub little-below : (k : ℕ) (s : List ℕ) (at : ℕ) → Bytes s → little k s at < 256 ^ k
 unfolding little
 little-below zero s at b = omega arith
 little-below (suc k) s at b =
@@ -73,22 +71,12 @@ take-bytes (suc stop) [] b i = omega arith
 take-bytes (suc stop) (x ∷ s) b zero = b zero
 take-bytes (suc stop) (x ∷ s) b (suc i) = take-bytes stop s (λ j. b (suc j)) i
 
-judged-was : (verdict : ℕ → ℕ) (at : ℕ) (x : Step ℕ) {v p : ℕ} → judged verdict at x ≡ found v p → x ≡ found v p
-unfolding judged
-judged-was verdict at (found w q) {v} {p} e = by (eqb (verdict w) 0) e
-  where
-    by : (b : Bool) → pick {A = Step ℕ} b (found w q) (refused (fault (verdict w) Number at)) ≡ found v p → found w q ≡ found v p
-    by true g = g
-    by false g = never g
-judged-was verdict at (refused f) e = never e
-
 number-below : (k : ℕ) (s : List ℕ) (at : ℕ) {v p : ℕ} → Bytes s → number k s at ≡ found v p → v < 256 ^ k
 unfolding number
-number-below k s at {v} {p} b e = by (leb (at + k) (length s)) e
-  where
-    by : (t : Bool) → pick {A = Step ℕ} t (found (little k s at) (at + k)) (refused (fault 7 Number at)) ≡ found v p → v < 256 ^ k
-    by true g = let same : little k s at ≡ v = cc in rw same at (little-below k s at b)
-    by false g = never g
+number-below k s at {v} {p} b e =
+    let (_, was) = pick-found (leb (at + k) (length s)) (found (little k s at) (at + k)) (fault 7 Number at) v p e in
+    let same : little k s at ≡ v = cc in
+    rw same at (little-below k s at b)
 
 -- a column's field and bits
 pub column-numbers : (n : ℕ) (s : List ℕ) (at : ℕ) {r : ColumnRow} {p : ℕ} → column n s at ≡ found r p → (r .field .0 < n) × (Bytes s → r .bits < 65536)
@@ -99,7 +87,7 @@ column-numbers n s at {r} {p} =
     bound Good (tested 4 (below n)) (λ f. tested 4 (listed 7) >>= (λ flags. give (row type bits f flags))) s q₂ (λ f q₃ inside.
     bound Good (tested 4 (listed 7)) (λ flags. give (row type bits f flags)) s q₃ (λ flags q₄ _ g.
     let same : row type bits f flags ≡ r = cc in
-    rw (← same) (below-limit n q₂ (number 4 s q₂) inside, λ b. number-below 2 s q b (judged-was (sized type) q (number 2 s q) small))))))
+    rw (← same) (below-limit n q₂ (number 4 s q₂) inside, λ b. number-below 2 s q b (judged-found (sized type) q (number 2 s q) small .0))))))
   where
     Good : ColumnRow → ℕ → Type 0
     Good r _ = (r .field .0 < n) × (Bytes s → r .bits < 65536)

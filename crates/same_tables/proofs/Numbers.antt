@@ -10,13 +10,10 @@ use lib.ListN.{length, getD, drop}
 use lib.Seq.{drop-cons, drop-nil}
 use borrow.Author.Tests.{eq-eqb, ne-eqb}
 use Rattle.numbers.specs.Choice.{both}
+use Rattle.numbers.proofs.Choice.{both-false}
 use Rattle.rows.specs.Tables.{fieldRow, darkMark}
 use Rattle.rows.specs.declared.FieldRow.{FieldRow}
 use Rattle.same_tables.specs.Same.{sameNumbers, sameHeads, sameStrings, sameField, allFrom}
-
-both-false : (b : Bool) → both b false ≡ false
-both-false true = refl
-both-false false = refl
 
 pub lengths-differ : (a b : List ℕ) → (length a ≡ length b → ⊥) → sameNumbers a b ≡ false
 unfolding sameNumbers

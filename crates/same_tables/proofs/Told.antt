@@ -1,33 +1,23 @@
 -- The tests are passed exactly when the tables are the same.
 use Prim.Native.Nat.{ℕ, zero, suc, _+_, _≤_, _<_, zero-le}
-use mathlib.Core.Path.{_≡_, refl, sym, subst}
+use mathlib.Core.Path.{_≡_, refl, subst}
 use mathlib.Core.Bool.{Bool, true, false}
 use mathlib.Core.List.{List, [], _∷_}
 use native.Mathlib.Omega.{arith}
-use lib.Dec.{T, eqb}
+use lib.Dec.{eqb}
 use borrow.Author.Tests.{eqb-true, eqb-false, eq-eqb}
 use Rattle.numbers.specs.Choice.{both}
+use Rattle.numbers.proofs.Choice.{clash, both-true}
 use Rattle.rows.specs.Tables.{fieldRow, darkMark}
 use Rattle.rows.specs.declared.Text.{Text}
 use Rattle.same_tables.specs.Same.{charactersOf, numbersOf, sameNumbers, sameTexts, sameStrings, sameField, allFrom, sameRead}
 use Rattle.same_tables.specs.Means.{Exactly, SameField, HeadersTold, FootersTold, PageListsTold}
 
-record Both (P Q : Type 0) : Type 0 where
-  pub first : P
-  pub second : Q
-
-false-is-not : {P : Type 0} → false ≡ true → P
-false-is-not e = absurd (subst T (sym e) tt)
-
-both-split : (a b : Bool) → both a b ≡ true → Both (a ≡ true) (b ≡ true)
-both-split true b e = record { first = refl; second = e }
-both-split false b e = false-is-not e
-
-both-exactly : {a b : Bool} {P Q : Type 0} → Exactly a P → Exactly b Q → Exactly (both a b) (Both P Q)
+both-exactly : {a b : Bool} {P Q : Type 0} → Exactly a P → Exactly b Q → Exactly (both a b) (P × Q)
 both-exactly {a = a} {b = b} x y =
     record {
-      sound = λ e. let s = both-split a b e in record { first = x .sound (s .first); second = y .sound (s .second) };
-      complete = λ p. rw (x .complete (p .first), y .complete (p .second));
+      sound = λ e. let s = both-true a b e in (x .sound (s .0), y .sound (s .1));
+      complete = λ p. rw (x .complete (p .0), y .complete (p .1));
     }
 
 said : {a : Bool} {P Q : Type 0} → Exactly a P → (P → Q) → (Q → P) → Exactly a Q
@@ -41,11 +31,11 @@ count-exactly m n = record { sound = eqb-true m n; complete = eq-eqb m n }
 same-sound : (a b : List ℕ) → sameNumbers a b ≡ true → a ≡ b
 unfolding sameNumbers
 same-sound [] [] e = refl
-same-sound [] (y ∷ ys) e = false-is-not e
-same-sound (x ∷ xs) [] e = false-is-not e
+same-sound [] (y ∷ ys) e = clash e refl
+same-sound (x ∷ xs) [] e = clash e refl
 same-sound (x ∷ xs) (y ∷ ys) e =
-    let s = both-split (eqb x y) (sameNumbers xs ys) e in
-    rw (eqb-true x y (s .first), same-sound xs ys (s .second))
+    let s = both-true (eqb x y) (sameNumbers xs ys) e in
+    rw (eqb-true x y (s .0), same-sound xs ys (s .1))
 
 same-itself : (a : List ℕ) → sameNumbers a a ≡ true
 unfolding sameNumbers
@@ -68,14 +58,14 @@ all-exactly test So each zero i = record { sound = λ e j low high. absurd (omeg
 all-exactly test So each (suc n) i =
     let rest = all-exactly test So each n (suc i) in
     record {
-      sound = λ e j low high. at (rest .sound) j low high (both-split (test i) (allFrom test n (suc i)) e) (eqb i j) refl;
+      sound = λ e j low high. at (rest .sound) j low high (both-true (test i) (allFrom test n (suc i)) e) (eqb i j) refl;
       complete = λ all. rw (each i .complete (all i (omega arith) (omega arith)), rest .complete (λ j low high. all j (omega (arith, low)) (omega (arith, high))));
     }
   where
-    at : (allFrom test n (suc i) ≡ true → (j : ℕ) → suc i ≤ j → j < suc i + n → So j) → (j : ℕ) → i ≤ j → j < i + suc n → Both (test i ≡ true) (allFrom test n (suc i) ≡ true)
+    at : (allFrom test n (suc i) ≡ true → (j : ℕ) → suc i ≤ j → j < suc i + n → So j) → (j : ℕ) → i ≤ j → j < i + suc n → (test i ≡ true) × (allFrom test n (suc i) ≡ true)
         → (b : Bool) → eqb i j ≡ b → So j
-    at rest j low high s true q = subst So (eqb-true i j q) (each i .sound (s .first))
-    at rest j low high s false q = rest (s .second) j (above i j low (eqb-false i j q)) (omega (arith, high))
+    at rest j low high s true q = subst So (eqb-true i j q) (each i .sound (s .0))
+    at rest j low high s false q = rest (s .1) j (above i j low (eqb-false i j q)) (omega (arith, high))
 
 -- headers
 
@@ -91,20 +81,14 @@ field-exactly e f e′ f′ i =
     (both-exactly (texts-exactly e (a .texts .«type_alias») e′ (b .texts .«type_alias»)) (texts-exactly e (a .texts .description) e′ (b .texts .description)))))
     (count-exactly (darkMark f i) (darkMark f′ i))))
     (λ p. record {
-      numbers = p .first;
-      name = p .second .first .first;
-      typeName = p .second .first .second .first;
-      typeAlias = p .second .first .second .second .first;
-      description = p .second .first .second .second .second;
-      dark = p .second .second;
+      numbers = p .0;
+      name = p .1 .0 .0;
+      typeName = p .1 .0 .1 .0;
+      typeAlias = p .1 .0 .1 .1 .0;
+      description = p .1 .0 .1 .1 .1;
+      dark = p .1 .1;
     })
-    (λ q. record {
-      first = q .numbers;
-      second = record {
-        first = record { first = q .name; second = record { first = q .typeName; second = record { first = q .typeAlias; second = q .description } } };
-        second = q .dark;
-      };
-    })
+    (λ q. (q .numbers, ((q .name, (q .typeName, (q .typeAlias, q .description))), q .dark)))
 
 pub headers-told : HeadersTold
 unfolding sameRead
@@ -115,40 +99,25 @@ headers-told e f c a t e′ f′ c′ a′ t′ =
     (both-exactly (texts-exactly e (t .texts .name) e′ (t′ .texts .name)) (both-exactly (texts-exactly e (t .texts .description) e′ (t′ .texts .description))
     (all-exactly (sameField e f e′ f′) (SameField e f e′ f′) (field-exactly e f e′ f′) (t .fields) 0))))))))
     (λ p. record {
-      columns = p .first;
-      aliases = p .second .first;
-      fieldCount = p .second .second .first;
-      columnCount = p .second .second .second .first;
-      aliasCount = p .second .second .second .second .first;
-      name = p .second .second .second .second .second .first;
-      description = p .second .second .second .second .second .second .first;
-      fields = λ i below. p .second .second .second .second .second .second .second i zero-le (omega (arith, below));
+      columns = p .0;
+      aliases = p .1 .0;
+      fieldCount = p .1 .1 .0;
+      columnCount = p .1 .1 .1 .0;
+      aliasCount = p .1 .1 .1 .1 .0;
+      name = p .1 .1 .1 .1 .1 .0;
+      description = p .1 .1 .1 .1 .1 .1 .0;
+      fields = λ i below. p .1 .1 .1 .1 .1 .1 .1 i zero-le (omega (arith, below));
     })
-    (λ q. record {
-      first = q .columns;
-      second = record {
-        first = q .aliases;
-        second = record {
-          first = q .fieldCount;
-          second = record {
-            first = q .columnCount;
-            second = record {
-              first = q .aliasCount;
-              second = record { first = q .name; second = record { first = q .description; second = λ i low below. q .fields i (omega (arith, below)) } };
-            };
-          };
-        };
-      };
-    })
+    (λ q. (q .columns, (q .aliases, (q .fieldCount, (q .columnCount, (q .aliasCount, (q .name, (q .description, λ i low below. q .fields i (omega (arith, below))))))))))
 
 -- footers and page lists
 
 pub footers-told : FootersTold
 footers-told c m n k c′ m′ n′ k′ =
     said (both-exactly (numbers-exactly c c′) (both-exactly (numbers-exactly m m′) (both-exactly (count-exactly n n′) (count-exactly k k′))))
-    (λ p. record { clusterRows = p .first; linkRows = p .second .first; clusterCount = p .second .second .first; linkCount = p .second .second .second })
-    (λ q. record { first = q .clusterRows; second = record { first = q .linkRows; second = record { first = q .clusterCount; second = q .linkCount } } })
+    (λ p. record { clusterRows = p .0; linkRows = p .1 .0; clusterCount = p .1 .1 .0; linkCount = p .1 .1 .1 })
+    (λ q. (q .clusterRows, (q .linkRows, (q .clusterCount, q .linkCount))))
 
 pub page-lists-told : PageListsTold
 page-lists-told p n p′ n′ =
-    said (both-exactly (numbers-exactly p p′) (count-exactly n n′)) (λ x. record { pageRows = x .first; pageCount = x .second }) (λ q. record { first = q .pageRows; second = q .pageCount })
+    said (both-exactly (numbers-exactly p p′) (count-exactly n n′)) (λ x. record { pageRows = x .0; pageCount = x .1 }) (λ q. (q .pageRows, q .pageCount))

@@ -37,15 +37,12 @@ use Rattle.tree.specs.HeaderTree.{FieldContent, HeaderContent, fieldCont
 use Rattle.tree.specs.FooterTree.{clusterRow, linkRow, footerTables, renderFooter}
 use Rattle.tree.specs.PageListTree.{pageListCarrier, pagesIn, pageRows, renderPageList, RightPageList}
 use Rattle.tree.specs.Accepted.{HeaderWritten, HeaderFits, HeaderAccepted, saidBy, FooterFits, FooterAccepted, totalsIn, PageListFits, PageListAccepted}
-use Rattle.numbers.proofs.Choice.{both-true}
+use Rattle.numbers.proofs.Choice.{clash, both-true}
 use Rattle.tree.proofs.HeaderLaws.{header-complete, header-sound, tables-known}
 use Rattle.tree.proofs.HeaderCalls.{accepted-call, roomy-call}
 use Rattle.header.proofs.Besides.{Both, both-read, both-read-is, beside-names}
 use Rattle.tree.proofs.PageListLaws.{rows-pages}
 use Rattle.tree.proofs.Exactly.{footer-exactly, page-list-exactly}
-
-no : {B : Type 0} → false ≡ true → B
-no e = let z : _≡_ {A = ℕ} 0 1 = cc in absurd (omega arith)
 
 -- headers
 
@@ -90,7 +87,7 @@ header-fits e f₀ f c₀ c a₀ a (Accepted x) bytes call h =
       columnsFit = omega (arith, leb-true (length (l .columns)) (length c₀ / columnWidth) roomy′, columns);
       aliasesFit = omega (arith, leb-true (length (l .aliases)) (length a₀ / aliasWidth) roomy″, aliases);
     }
-header-fits e f₀ f c₀ c a₀ a (Refused n) bytes call h = no h
+header-fits e f₀ f c₀ c a₀ a (Refused n) bytes call h = clash h refl
 
 pub header-accepted : HeaderAccepted
 unfolding HeaderAccepted
@@ -123,7 +120,7 @@ footer-read e g file c m h = by (footerBeside e g file) refl h
         → isAccepted (footerOutcome (pick b (AcceptedFooter (length (f .clusters)) (length (f .metadata))) (RefusedFooter 2 20))) ≡ true → FooterRead e g file c m
     roomy f is true room h =
         record { footer = f; is = is; room = room; both = both-read 2 (λ _. footerOf (checksumOf e) file g) (headerOf e) f is }
-    roomy f is false room h = no h
+    roomy f is false room h = clash h refl
 
     by : (y : Beside Footer) → footerBeside e g file ≡ y → isAccepted (footerOutcome (footerAnswer c m y)) ≡ true → FooterRead e g file c m
     by (read f) is h = roomy f is (footerRoom c m f) refl h
@@ -186,7 +183,7 @@ pages-read e l entries file n h = by (pageListBeside e l entries file) refl h
         → isAccepted (pageListOutcome (pick b (AcceptedPages (pagesOf pss)) (RefusedPages 3 20))) ≡ true → PagesRead e l entries file n
     roomy pss is true room h =
         record { pages = pss; is = is; room = room; both = both-read 3 (λ h. pageListOf h entries file l) (headerOf e) pss is }
-    roomy pss is false room h = no h
+    roomy pss is false room h = clash h refl
 
     by : (y : Beside (List (List PageRow))) → pageListBeside e l entries file ≡ y → isAccepted (pageListOutcome (pagesAnswer n y)) ≡ true → PagesRead e l entries file n
     by (read pss) is h = roomy pss is (pagesRoom n pss) refl h

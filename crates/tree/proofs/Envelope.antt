@@ -12,13 +12,13 @@ use Rattle.numbers.specs.Choice.{both}
 use Rattle.numbers.specs.Numbers.{little}
 use Rattle.checksum.specs.Crc.{crc32}
 use Rattle.wire.specs.Reading.{Step, found, refused, Rule}
+use Rattle.wire.proofs.Laws.{never, pick-found}
 use Rattle.frames.specs.Frames.{closed}
 use Rattle.envelope.specs.Envelope.{Versions, versionsOf, versioned, versionOf, opened, enclosed, ceiling, strictOf, checksumOf}
 use Rattle.tree.specs.Bytes.{spelled, Stands, Bytes}
 use Rattle.tree.specs.Shape.{Carrier, Shape, Read, Written, Law}
 use Rattle.tree.specs.EnvelopeTree.{Enveloped, unsummed, sealed, renderEnvelope, Right}
 use Rattle.tree.proofs.Place.{length-spelled, stands-left, stands-right, stands-join, part-stands, little-spelled, little-bound, spelled-little, container-long}
-use Rattle.tree.proofs.Simple.{pick-found}
 use Rattle.numbers.proofs.Choice.{both-true}
 use Rattle.tree.proofs.Frames.{closed-complete, Closed, closed-sound, spare-of, spare-long, spare-stands, spare-none}
 
@@ -81,7 +81,7 @@ passed supported s v p e =
 enclosed-found : {A : Type 0} (r : Versions → Rule A) (s : List ℕ) (x : Step Versions) (a : A) (q : ℕ) → enclosed r s x ≡ found a q
     → (v : Versions) × (p : ℕ) × (x ≡ found v p)
 enclosed-found r s (found v p) a q e = (v, p, refl)
-enclosed-found r s (refused f) a q e = let z : _≡_ {A = ℕ} 0 1 = cc in absurd (omega arith)
+enclosed-found r s (refused f) a q e = never e
 
 pub was-opened : {A : Type 0} (supported : ℕ) (r : Versions → Rule A) (s : List ℕ) (a : A) (q : ℕ) → versioned supported r s ≡ found a q
     → Opened supported s (length s - 4) × (closed (strictOf s) (length s - 4) (r (versionsOf s) (take (length s - 4) s) 4) ≡ found a q)

@@ -14,6 +14,7 @@ use Rattle.numbers.specs.Choice.{pick}
 use Rattle.numbers.proofs.Choice.{clash}
 use Rattle.numbers.specs.Numbers.{little}
 use Rattle.wire.specs.Reading.{Step, found, refused, Rule, after, inItem}
+use Rattle.wire.proofs.Laws.{never, pick-found}
 use Rattle.frames.specs.Frames.{closedBy, closed, frameSize, recordHead, recordEnd, listEnd, recordBody, recordOf, listStop, listCount, countJudged, listHead, listBody, listOf, within, items}
 use Rattle.frames.specs.declared.ListHead.{ListHead as Head}
 use Rattle.frames.specs.declared.FrameSize.the-variants.{RecordSize, ListSize}
@@ -21,7 +22,7 @@ use Rattle.wire.specs.declared.Fault.{Fault}
 use Rattle.tree.specs.Bytes.{spelled, Stands, Bytes}
 use Rattle.tree.specs.Shape.{Carrier, Shape, Read, Written, Law, bare, framed, recordShape, renderItems, ValidItems, Means, none, more, listCarrier, listShape}
 use Rattle.tree.proofs.Place.{length-spelled, stands-left, stands-right, stands-join, stands-none, stands-part, little-spelled, little-bound, spelled-little, container-long, little-container, container-in}
-use Rattle.tree.proofs.Simple.{pick-found, after-found, meant}
+use Rattle.tree.proofs.Simple.{after-found, meant}
 
 -- a container's end
 
@@ -37,17 +38,14 @@ pub record Closed {A : Type 0} (strict : Bool) (stop : ℕ) (x : Step A) (a : A)
   pub stops : q ≡ stop
   pub full : strict ≡ true → stop ≤ place
 
-not-refused : {A B : Type 0} {f : Fault} {a : A} {q : ℕ} → _≡_ {A = Step A} (refused f) (found a q) → B
-not-refused e = let z : _≡_ {A = ℕ} 0 1 = cc in absurd (omega arith)
-
 closed-strict : {A : Type 0} (f : Fault) (stop p : ℕ) (b a : A) (q : ℕ) (t : Bool) → ltb p stop ≡ t → pick t (refused f) (found b stop) ≡ found a q
     → Closed true stop (found b p) a q
-closed-strict f stop p b a q true h e = not-refused e
+closed-strict f stop p b a q true h e = never e
 closed-strict f stop p b a q false h e = record { place = p; inner = cc; stops = cc; full = λ _. ltb-false p stop h }
 
 pub closed-sound : {A : Type 0} (mark : Fault → Fault) (strict : Bool) (stop : ℕ) (x : Step A) (a : A) (q : ℕ) → closedBy mark strict stop x ≡ found a q
     → Closed strict stop x a q
-closed-sound mark strict stop (refused f) a q e = not-refused e
+closed-sound mark strict stop (refused f) a q e = never e
 closed-sound mark true stop (found b p) a q e = closed-strict _ stop p b a q (ltb p stop) refl e
 closed-sound mark false stop (found b p) a q e = record { place = p; inner = cc; stops = cc; full = λ f. clash f refl }
 
@@ -99,12 +97,12 @@ record-size n true e c p start stop reads =
     let (a, e₁) = pick-found (leb 4 n) _ _ start stop reads in
     let (b, e₂) = pick-found (leb (p + n) (length c)) _ _ start stop e₁ in
     (ltb-true n (2 ^ 31) e, leb-true 4 n a, leb-true (p + n) (length c) b, cc, cc)
-record-size n false e c p start stop reads = not-refused reads
+record-size n false e c p start stop reads = never reads
 
 list-size : (n : ℕ) (b : Bool) → ltb n (2 ^ 31) ≡ b → (c : List ℕ) (p start stop : ℕ)
     → listEnd c p (pick b (RecordSize n) (ListSize (2 ^ 32 - n))) ≡ found start stop
     → (2 ^ 31 ≤ n) × (8 ≤ 2 ^ 32 - n) × (p + (2 ^ 32 - n) ≤ length c) × (start ≡ p + 8) × (stop ≡ p + (2 ^ 32 - n))
-list-size n true e c p start stop reads = not-refused reads
+list-size n true e c p start stop reads = never reads
 list-size n false e c p start stop reads =
     let (a, e₁) = pick-found (leb 8 (2 ^ 32 - n)) _ _ start stop reads in
     let (b, e₂) = pick-found (leb (p + (2 ^ 32 - n)) (length c)) _ _ start stop e₁ in
@@ -187,7 +185,7 @@ record-law {A} {T} {C} s strict R K S M small law =
   where
     go : (end p : ℕ) (a : A) (q : ℕ) → Bytes s → end ≤ length s → (h : Step ℕ) → recordHead (take end s) p ≡ h
         → recordBody strict R (take end s) h ≡ found a q → Written s strict (framed K) (recordShape S) M end p a q
-    go end p a q bytes inside (refused f) e reads = not-refused reads
+    go end p a q bytes inside (refused f) e reads = never reads
     go end p a q bytes inside (found start stop) e reads =
         let head = record-head-sound s end p start stop inside e in
         let step = R (take stop (take end s)) start in
@@ -201,7 +199,7 @@ record-law {A} {T} {C} s strict R K S M small law =
 
 within-found : {A : Type 0} (head i : ℕ) (x : Step A) (a : A) (q : ℕ) → within head i x ≡ found a q → x ≡ found a q
 within-found head i (found b p) a q e = e
-within-found head i (refused f) a q e = not-refused e
+within-found head i (refused f) a q e = never e
 
 within-is : {A : Type 0} (head i : ℕ) (x : Step A) (a : A) (q : ℕ) → x ≡ found a q → within head i x ≡ found a q
 within-is head i x a q e = rw e refl
@@ -324,7 +322,7 @@ count-judged verdict p (found g q) h stop e =
     let (good, same) = pick-found (eqb (verdict (g .count)) 0) _ _ h stop e in
     let value : g ≡ h = cc in
     (same, ap (λ (x : Head). verdict (x .count)) (sym value) ∙ eqb-true (verdict (g .count)) 0 good)
-count-judged verdict p (refused f) h stop e = not-refused e
+count-judged verdict p (refused f) h stop e = never e
 
 list-counted : (c : List ℕ) (p : ℕ) (x : Step ℕ) (h : Head) (stop : ℕ) → listCount c p x ≡ found h stop
     → (start : ℕ) × (x ≡ found start stop) × (h .start ≡ start) × (h .count ≡ little 4 c (p + 4)) × (little 4 c (p + 4) < 2 ^ 28)
@@ -333,7 +331,7 @@ list-counted c p (found start q) h stop e =
     let value : record { count = little 4 c (p + 4); start = start } ≡ h = cc in
     let stops : q ≡ stop = cc in
     (start, ap (found start) stops, ap (λ (x : Head). x .start) (sym value), ap (λ (x : Head). x .count) (sym value), ltb-true (little 4 c (p + 4)) (2 ^ 28) few)
-list-counted c p (refused f) h stop e = not-refused e
+list-counted c p (refused f) h stop e = never e
 
 list-stopped : (c : List ℕ) (p start stop : ℕ) → listStop c p ≡ found start stop
     → (p + 4 ≤ length c) × (2 ^ 31 ≤ little 4 c p) × (8 ≤ 2 ^ 32 - little 4 c p) × (p + (2 ^ 32 - little 4 c p) ≤ length c) × (start ≡ p + 8)
@@ -460,7 +458,7 @@ list-law {A} s strict verdict r K G M small law =
   where
     go : (end p : ℕ) (xs : List A) (q : ℕ) → Bytes s → end ≤ length s → (h : Step Head) → listHead verdict (take end s) p ≡ h
         → listBody strict r (take end s) p h ≡ found xs q → Written s strict (listCarrier K) (listShape K verdict G) (λ cs ys. Means M cs ys) end p xs q
-    go end p xs q bytes inside (refused f) e reads = not-refused reads
+    go end p xs q bytes inside (refused f) e reads = never reads
     go end p xs q bytes inside (found h stop) e reads =
         let n = h .count in
         let head = list-head-sound verdict s end p h stop inside e in

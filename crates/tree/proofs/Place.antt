@@ -11,6 +11,7 @@ use native.Mathlib.Nat.{add-zero}
 use lib.ListN.{length, getD, take, drop, take-append-drop}
 use lib.Seq.{drop-drop, drop-append-seam, take-append-seam, getD-drop, drop-cons, length-take-le, getD-take, take-take}
 use Rattle.numbers.specs.Numbers.{little}
+use Rattle.records.proofs.Bounds.{little-below}
 use Rattle.tree.specs.Bytes.{spelled, Stands, Bytes}
 
 pub length-spelled : (k n : ℕ) → length (spelled k n) ≡ k
@@ -60,12 +61,7 @@ little-spelled (suc k) n {s} {p} h st =
     omega arith
 
 pub little-bound : (k : ℕ) (s : List ℕ) (p : ℕ) → Bytes s → little k s p < 256 ^ k
-unfolding little
-little-bound zero s p b = omega arith
-little-bound (suc k) s p b =
-    let first = bytes-at s p b in
-    let later = little-bound k s (p + 1) b in
-    omega arith
+little-bound k s p b = little-below k s p (λ i. bytes-at s i b)
 
 -- the number that is read at a place is spelled there
 pub spelled-little : (k : ℕ) (s : List ℕ) (p : ℕ) → Bytes s → p + k ≤ length s → Stands s p (spelled k (little k s p))

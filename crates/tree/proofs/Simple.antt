@@ -1,35 +1,21 @@
 -- The laws of numbers, strings, nothing and sequence.
 use Prim.Native.Nat.{ℕ, _+_, _^_, _≤_, _<_}
 use mathlib.Core.List.{List, _++_}
-use mathlib.Core.Bool.{Bool, true, false}
+use mathlib.Core.Bool.{Bool, true}
 use mathlib.Core.Path.{_≡_, refl, sym, ap, _∙_, subst}
 use native.Mathlib.Omega.{arith}
 use native.Mathlib.Nat.{add-zero}
 use lib.Dec.{leb, eqb}
-use borrow.Author.Tests.{leb-true, eqb-true, le-leb, eq-eqb}
+use borrow.Author.Tests.{leb-true, le-leb, eq-eqb}
 use lib.ListN.{length, take, drop, length-append, length-drop}
 use lib.Seq.{length-take-le}
-use Rattle.numbers.specs.Choice.{pick}
 use Rattle.numbers.specs.Numbers.{little}
 use Rattle.wire.specs.Reading.{Step, found, refused, Rule, after, _>>=_, give, here, number, judged, tested}
+use Rattle.wire.proofs.Laws.{never, pick-found, judged-found}
 use Rattle.text.specs.Strings.{stringOf}
-use Rattle.wire.specs.declared.Fault.{Fault}
 use Rattle.tree.specs.Bytes.{spelled, Stands}
 use Rattle.tree.specs.Shape.{Carrier, Shape, Law, bare, numberShape, stringShapeOf, chars, nothingShape, NoVerdict, _▷_, thenShape, seenShape, dressed, dressedShape}
 use Rattle.tree.proofs.Place.{length-spelled, stands-left, stands-right, stands-join, stands-none, stands-part, part-stands, little-spelled, little-bound, spelled-little, container-long, little-container, part-in}
-
--- a choice between a step and a refusal that finds something took the step
-pub pick-found : {A : Type 0} (b : Bool) (x : Step A) (f : Fault) (a : A) (q : ℕ) → pick b x (refused f) ≡ found a q → (b ≡ true) × (x ≡ found a q)
-pick-found true x f a q e = (refl, e)
-pick-found false x f a q e = let z : _≡_ {A = ℕ} 0 1 = cc in absurd (omega arith)
-
-pub judged-found : (verdict : ℕ → ℕ) (at : ℕ) (x : Step ℕ) (a q : ℕ) → judged verdict at x ≡ found a q → (x ≡ found a q) × (verdict a ≡ 0)
-unfolding judged
-judged-found verdict at (found v p) a q e =
-    let (good, same) = pick-found (eqb (verdict v) 0) _ _ a q e in
-    let value : v ≡ a = cc in
-    (same, rw value at (eqb-true (verdict v) 0 good))
-judged-found verdict at (refused f) a q e = let z : _≡_ {A = ℕ} 0 1 = cc in absurd (omega arith)
 
 module _ (s : List ℕ) (strict : Bool) where
   -- a number
@@ -75,7 +61,7 @@ module _ (s : List ℕ) (strict : Bool) where
               means = refl;
             };
         sound = λ end p a q bytes some inside at reads.
-            let (reads′, good) = judged-found verdict p (number k (take end s) p) a q reads in
+            let (reads′, good) = judged-found verdict p (number k (take end s) p) reads in
             let w = plain-law k .sound end p a q bytes some inside at reads′ in
             record {
               tree = w .tree;
@@ -165,7 +151,7 @@ module _ (s : List ℕ) (strict : Bool) where
 pub after-found : {A B : Type 0} (k : A → Rule B) (s : List ℕ) (x : Step A) (b : B) (q : ℕ) → after k s x ≡ found b q
     → (a : A) × (p : ℕ) × (x ≡ found a p) × (k a s p ≡ found b q)
 after-found k s (found a p) b q e = (a, p, refl, e)
-after-found k s (refused f) b q e = let z : _≡_ {A = ℕ} 0 1 = cc in absurd (omega arith)
+after-found k s (refused f) b q e = never e
 
 pub then-law : {A B T C U D : Type 0} (s : List ℕ) (strict : Bool) (R : Rule A) (k : A → Rule B) (K : Carrier T C) (L : Carrier U D) (S : Shape T C) (G : C → Shape U D) (M : C → A → Type 0) (N : C × D → B → Type 0)
     → Law s strict R K S M → ((c : C) (a : A) → M c a → Law s strict (k a) L (G c) (λ d b. N (c, d) b))

@@ -12,11 +12,7 @@ use lib.Seq.{drop-cons}
 use borrow.Author.Tests.{ltb-true, ltb-false, lt-ltb, le-ltb}
 use Rattle.numbers.specs.Choice.{both}
 use Rattle.utf8.specs.Walking.{ascii}
-use Rattle.numbers.proofs.Choice.{both-right}
-
-both-assoc : (a b c : Bool) → both a (both b c) ≡ both (both a b) c
-both-assoc true b c = refl
-both-assoc false b c = refl
+use Rattle.numbers.proofs.Choice.{both-assoc, both-right}
 
 or-ascii : (a b : ℕ) → ltb (bitOr a b) 128 ≡ both (ltb a 128) (ltb b 128)
 or-ascii a b = by (ltb a 128) refl (ltb b 128) refl
@@ -40,7 +36,7 @@ Joined s all i = ascii s ≡ both (ltb all 128) (ascii (drop i s))
 
 pub joined-next : (s : List ℕ) (all i : ℕ) → i < length s → Joined s all i → Joined s (bitOr all (getD s i 0)) (i + 1)
 unfolding ascii
-joined-next s all i h j = j ∙ rw (drop-cons s i 0 h, add-one, or-ascii) (both-assoc (ltb all 128) (ltb (getD s i 0) 128) (ascii (drop (suc i) s)))
+joined-next s all i h j = j ∙ rw (drop-cons s i 0 h, add-one, or-ascii) (sym (both-assoc (ltb all 128) (ltb (getD s i 0) 128) (ascii (drop (suc i) s))))
 
 pub joined-all : (s : List ℕ) (all i : ℕ) → length s ≤ i → Joined s all i → ltb all 128 ≡ ascii s
 unfolding ascii

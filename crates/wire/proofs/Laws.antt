@@ -32,6 +32,11 @@ passed false k rest e = absurd (omega arith)
 pub never : {A : Type 0} {B : Type 0} {f : Fault} {a : A} {p : ℕ} → _≡_ {A = Step A} (refused f) (found a p) → B
 never e = let z : _≡_ {A = ℕ} 0 1 = cc in absurd (omega arith)
 
+-- a choice between a step and a refusal: the step was taken
+pub pick-found : {A : Type 0} (b : Bool) (x : Step A) (f : Fault) (a : A) (p : ℕ) → pick b x (refused f) ≡ found a p → (b ≡ true) × (x ≡ found a p)
+pick-found true x f a p e = (refl, e)
+pick-found false x f a p e = never e
+
 -- a sequence: the fact P of its result, from that of each of its two parts
 module _ {A B : Type 0} (P : B → ℕ → Type 0) (r : Rule A) (k : A → Rule B) (s : List ℕ) (at : ℕ) where
   pub bound : {b : B} {q : ℕ} → ((a : A) (p : ℕ) → r s at ≡ found a p → k a s p ≡ found b q → P b q) → (r >>= k) s at ≡ found b q → P b q
@@ -65,15 +70,14 @@ module _ (k : ℕ) {s : List ℕ} {at : ℕ} {r : Bool} (room : Room s at k r) w
   unfolding number
   number-missing gone named = rw (← room .is, gone, named)
 
--- a number that was found has passed its verdict
-pub judged-zero : (verdict : ℕ → ℕ) (at : ℕ) (x : Step ℕ) {v p : ℕ} → judged verdict at x ≡ found v p → verdict v ≡ 0
+-- a judged number that was found was found before, and has passed its verdict
+pub judged-found : (verdict : ℕ → ℕ) (at : ℕ) (x : Step ℕ) {v p : ℕ} → judged verdict at x ≡ found v p → (x ≡ found v p) × (verdict v ≡ 0)
 unfolding judged
-judged-zero verdict at (found w q) {v} {p} e = by (eqb (verdict w) 0) refl e
-  where
-    by : (b : Bool) → eqb (verdict w) 0 ≡ b → pick {A = Step ℕ} b (found w q) (refused (fault (verdict w) Number at)) ≡ found v p → verdict v ≡ 0
-    by true g h = let same : w ≡ v = cc in rw same at (eqb-true (verdict w) 0 g)
-    by false g h = never h
-judged-zero verdict at (refused f) e = never e
+judged-found verdict at (found w q) {v} {p} e =
+    let (good, same) = pick-found (eqb (verdict w) 0) (found w q) (fault (verdict w) Number at) v p e in
+    let value : w ≡ v = cc in
+    (same, rw value at (eqb-true (verdict w) 0 good))
+judged-found verdict at (refused f) e = never e
 
 -- a verdict that was reached on the number that was read
 pub judged-read : (verdict : ℕ → ℕ) (at : ℕ) {x : Step ℕ} {v p w : ℕ} → x ≡ found v p → w ≡ verdict v → judged (λ _. w) at (found v p) ≡ judged verdict at x

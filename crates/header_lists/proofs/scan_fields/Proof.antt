@@ -40,7 +40,7 @@ cast-parents : tie.Need-cast-parents Inv-loop μ-loop
 cast-parents c = let a = c .before .before .before .before .before .before .before .before .before .before .before .before .before .args in
     let n = a .head .count in
     let few = c .before .before .before .before .before .before .before .before .before .before .before .before .before .pre .0 in
-    let under = record-found (λ (r : FieldRow). r .head .parent .0 < n) (a .strict) (field n) (a .s .now) _ (λ u at q. field-parent n u at) (sym (c .before .before .before .before .before .before .field-record .ensures) ∙ ap fieldStep (c .before .before .before .before .row .given .1)) in
+    let under = record-found (λ (r : FieldRow). r .head .parent .0 < n) (a .strict) (field n) (a .s .now) _ (λ stop from q. field-parent n _ from) (sym (c .before .before .before .before .before .before .field-record .ensures) ∙ ap fieldStep (c .before .before .before .before .row .given .1)) in
     omega arith
 
 mul-parents : tie.Need-mul-parents Inv-loop μ-loop
