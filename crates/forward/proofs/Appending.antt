@@ -17,7 +17,7 @@ use Rattle.numbers.specs.Rows.{flat, over}
 use Rattle.column_type.specs.Types.{known}
 use Rattle.header.specs.Header.{Header}
 use Rattle.records.specs.Records.{aliased}
-use Rattle.parents.specs.Parents.{allReach}
+use Rattle.parents.specs.Parents.{Inside, allReach}
 use Rattle.parents.specs.Moves.{allMoves}
 use Rattle.header.specs.Tables.{headerOf, roomFor}
 use Rattle.parents.specs.Dark.{dark}
@@ -37,7 +37,7 @@ use Rattle.forward.specs.HeaderAppend.{appended, SelfParented, Appendix,
 use Rattle.tree.proofs.HeaderCalls.{answer-of, accepted-call, roomy-call}
 use Rattle.forward.proofs.Calls.{mark, fields-say}
 use Rattle.forward.proofs.HeaderForward.{the-header}
-use Rattle.forward.proofs.Chains.{Closed-under, Tops, reach-appended, above-appended, not-above, moves-appended}
+use Rattle.forward.proofs.Chains.{Tops, reach-appended, above-appended, not-above, moves-appended}
 
 -- verdicts
 
@@ -144,7 +144,7 @@ own-parents n [] s i h = absurd (omega arith)
 own-parents n (f ∷ fs) s zero h = s .0 ∙ sym (add-zero n)
 own-parents n (f ∷ fs) s (suc i) h = own-parents (suc n) fs (s .1) i (omega arith) ∙ omega arith
 
-module _ (old new : List ℕ) (closed : Closed-under old) (reach : allReach old (length old) ≡ true) (tops : Tops (old ++ new) (length old)) (i : ℕ) (before : i < length old) where
+module _ (old new : List ℕ) (closed : Inside old (length old)) (reach : allReach old (length old) ≡ true) (tops : Tops (old ++ new) (length old)) (i : ℕ) (before : i < length old) where
   new-dark : (ks : List ColumnRow) → Each (λ (c : ColumnRow). length old ≤ c .field .0) ks
       → Each (λ (c : ColumnRow). c .field .0 < length (old ++ new)) ks → dark (old ++ new) ks i ≡ false
   unfolding dark
@@ -216,7 +216,7 @@ module _ (t : HeaderTree) (right : RightHeader t) (fields : List (Framed FieldCo
   long : length (parentsIn fs) ≡ length fs
   long = length-map fs (λ (c : FieldContent). c .head .parent .0)
 
-  closed : Closed-under (parentsIn fs)
+  closed : Inside (parentsIn fs) (length (parentsIn fs))
   closed f h = rw long (parent-at (length fs) fs (each-weaken (field-parent (length fs)) fs old-valid) f (omega (arith, long)))
 
   tops : Tops (parentsIn fs ++ parentsIn ns) (length (parentsIn fs))

@@ -4,38 +4,16 @@ use mathlib.Core.List.{List, _++_}
 use mathlib.Core.Bool.{Bool, true, false}
 use mathlib.Core.Path.{_≡_, refl, sym, ap, _∙_}
 use native.Mathlib.Omega.{arith}
-use native.Mathlib.Nat.{suc-add, zero-add, add-zero, add-suc}
+use native.Mathlib.Nat.{suc-add, add-zero, add-suc}
 use lib.Dec.{eqb, leb}
-use borrow.Author.Tests.{eqb-true, eqb-false, eq-eqb, ne-eqb, leb-true, leb-false}
+use borrow.Author.Tests.{eqb-true, eq-eqb, ne-eqb, leb-true, leb-false}
 use lib.ListN.{length, getD, length-append, List·getD-append}
 use Rattle.numbers.specs.Choice.{pick}
-use Rattle.parents.specs.Parents.{topLevel, meets, reaches, allReach, isAbove}
-use Rattle.parents.specs.Moves.{moves, totalMoves, allMoves}
+use Rattle.parents.specs.Parents.{Inside, topLevel, meets, reaches, allReach, isAbove}
+use Rattle.parents.specs.Moves.{totalMoves, allMoves}
+use Rattle.parents.proofs.ChainLaws.{meets-here, meets-le, reaches-same, isAbove-same}
 use Rattle.parents.proofs.EndlessLaws.{reach-each, reach-all}
-use Rattle.parents.proofs.MovesLaws.{moves-top, moves-settled}
-
--- every field's parent is a field
-abbrev pub Closed-under : List ℕ → Type 0
-Closed-under parents = (f : ℕ) → f < length parents → getD parents f 0 < length parents
-
--- more moves reach no less
-pub reaches-more : (parents : List ℕ) (k j f : ℕ) → reaches parents k f ≡ true → reaches parents (k + j) f ≡ true
-unfolding meets
-reaches-more parents zero zero f e = e
-reaches-more parents zero (suc j) f e = rw (zero-add (suc j), e) refl
-reaches-more parents (suc k) j f e = rw (suc-add k j) (go (topLevel parents f) e (reaches-more parents k j (getD parents f 0)))
-  where
-    go : (b : Bool) → pick b true (reaches parents k (getD parents f 0)) ≡ true
-        → (reaches parents k (getD parents f 0) ≡ true → reaches parents (k + j) (getD parents f 0) ≡ true)
-        → pick b true (reaches parents (k + j) (getD parents f 0)) ≡ true
-    go true h later = refl
-    go false h later = later h
-
--- a self-parented field is reached in any number of moves
-reaches-top : (parents : List ℕ) (k f : ℕ) → topLevel parents f ≡ true → reaches parents k f ≡ true
-unfolding meets
-reaches-top parents zero f e = e
-reaches-top parents (suc k) f e = rw e refl
+use Rattle.parents.proofs.MovesLaws.{moves-top, moves-settled, moves-same}
 
 -- from a self-parented field no other is reached
 above-top : (parents : List ℕ) (k f g : ℕ) → topLevel parents g ≡ true → isAbove parents k f g ≡ eqb f g
@@ -61,29 +39,15 @@ above-more parents (suc k) j f g e = go (topLevel parents g) refl e (above-more 
     go true t h later = above-top parents (suc k + j) f g t ∙ sym (above-top parents (suc k) f g t)
     go false t h later = rw (suc-add k j, later h) refl
 
-module _ (parents new : List ℕ) (closed : Closed-under parents) where
-  -- the appended fields change no earlier chain
-  old-reaches : (k f : ℕ) → f < length parents → reaches (parents ++ new) k f ≡ reaches parents k f
-  unfolding meets
-  old-reaches zero f h = rw (List·getD-append parents new 0 f h) refl
-  old-reaches (suc k) f h = rw (List·getD-append parents new 0 f h, old-reaches k (getD parents f 0) (closed f h)) refl
-
-  old-above : (k f g : ℕ) → g < length parents → isAbove (parents ++ new) k f g ≡ isAbove parents k f g
-  unfolding meets
-  old-above zero f g h = refl
-  old-above (suc k) f g h = rw (List·getD-append parents new 0 g h, old-above k f (getD parents g 0) (closed g h)) refl
-
 -- appended fields are self-parented: from number n on, each is its own parent
 abbrev pub Tops : List ℕ → ℕ → Type 0
 Tops parents n = (f : ℕ) → n ≤ f → f < length parents → getD parents f 0 ≡ f
 
--- the appended fields change no earlier number of moves
-old-moves : (parents new : List ℕ) → Closed-under parents → (k f : ℕ) → f < length parents → moves (parents ++ new) k f ≡ moves parents k f
-unfolding moves
-old-moves parents new closed zero f h = refl
-old-moves parents new closed (suc k) f h = rw (List·getD-append parents new 0 f h, old-moves parents new closed k (getD parents f 0) (closed f h)) refl
+module _ (parents new : List ℕ) (closed : Inside parents (length parents)) (reach : allReach parents (length parents) ≡ true) (tops : Tops (parents ++ new) (length parents)) where
+  -- the appended fields change no earlier parent, and so nothing of an earlier chain
+  same : (f : ℕ) → f < length parents → getD parents f 0 ≡ getD (parents ++ new) f 0
+  same f h = sym (List·getD-append parents new 0 f h)
 
-module _ (parents new : List ℕ) (closed : Closed-under parents) (reach : allReach parents (length parents) ≡ true) (tops : Tops (parents ++ new) (length parents)) where
   pub reach-appended : allReach (parents ++ new) (length (parents ++ new)) ≡ true
   reach-appended = reach-all (parents ++ new) (length (parents ++ new)) (λ f h. go f h (leb (suc f) (length parents)) refl)
     where
@@ -91,13 +55,15 @@ module _ (parents new : List ℕ) (closed : Closed-under parents) (reach : allRe
           → reaches (parents ++ new) (length (parents ++ new)) f ≡ true
       go f h true t =
           let less : f < length parents = leb-true (suc f) (length parents) t in
-          rw (length-append parents new) (reaches-more (parents ++ new) (length parents) (length new) f (old-reaches parents new closed (length parents) f less ∙ reach-each parents (length parents) f reach less))
+          let more = length-append parents new in
+          meets-le (topLevel (parents ++ new)) (parents ++ new) (length parents) (length (parents ++ new)) f (omega arith)
+          (sym (reaches-same parents (parents ++ new) (length parents) closed same (length parents) f less) ∙ reach-each parents (length parents) f reach less)
       go f h false t =
           let more : length parents < suc f = leb-false (suc f) (length parents) t in
-          reaches-top (parents ++ new) (length (parents ++ new)) f (eq-eqb (getD (parents ++ new) f 0) f (tops f (omega arith) h))
+          meets-here (topLevel (parents ++ new)) (parents ++ new) (length (parents ++ new)) f (eq-eqb (getD (parents ++ new) f 0) f (tops f (omega arith) h))
 
   pub above-appended : (f g : ℕ) → g < length parents → isAbove (parents ++ new) (length (parents ++ new)) f g ≡ isAbove parents (length parents) f g
-  above-appended f g h = old-above parents new closed (length (parents ++ new)) f g h ∙ ap (λ (k : ℕ). isAbove parents k f g) (length-append parents new) ∙ above-more parents (length parents) (length new) f g (reach-each parents (length parents) g reach h)
+  above-appended f g h = sym (isAbove-same parents (parents ++ new) (length parents) closed same (length (parents ++ new)) f g h) ∙ ap (λ (k : ℕ). isAbove parents k f g) (length-append parents new) ∙ above-more parents (length parents) (length new) f g (reach-each parents (length parents) g reach h)
 
   pub not-above : (f g : ℕ) → f < length parents → length parents ≤ g → g < length (parents ++ new)
       → isAbove (parents ++ new) (length (parents ++ new)) f g ≡ false
@@ -110,7 +76,7 @@ module _ (parents new : List ℕ) (closed : Closed-under parents) (reach : allRe
       let more = length-append parents new in
       rw (
         old-total m (omega arith),
-        old-moves parents new closed (length (parents ++ new)) m h,
+        ← moves-same parents (parents ++ new) (length parents) closed same (length (parents ++ new)) m h,
         moves-settled parents (length parents) (length (parents ++ new)) m (omega arith) (reach-each parents (length parents) m reach h),
       )
 

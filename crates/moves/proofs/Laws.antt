@@ -7,7 +7,7 @@ use native.Mathlib.Omega.{arith}
 use lib.ListN.{length, take, replicate, length-replicate, length-map}
 use Rattle.numbers.specs.Rows.{over}
 use Rattle.rows.specs.Words.{mostFields}
-use Rattle.header_lists.proofs.LaidLaws.{over-long}
+use Rattle.numbers.proofs.Parts.{over-length}
 use lib.Seq.{take-at}
 use Rattle.wire.specs.declared.Fault.{Fault}
 use Rattle.wire.specs.Reading.{Step, found, refused, mapped}
@@ -82,7 +82,7 @@ module _ (e : List ℕ) {scan : HeaderScan} {q : ℕ} (w : found scan q ≡ mapp
         let few = fields-few e (m .was) in
         let n = field-count (m .value .lists .fields) in
         let l = length-replicate {A = ℕ} mostFields 0 in
-        sym (ap length parents-are ∙ over-long (parentsOf (m .value .lists .fields)) (replicate mostFields 0) (omega arith) ∙ l)
+        sym (ap length parents-are ∙ over-length (parentsOf (m .value .lists .fields)) (replicate mostFields 0) (omega arith) ∙ l)
 
     pub scan-counted : {total : ℕ} → total ≡ movesOf p (scan .lists .fields) → Answered (headerOf e) (Moves total)
     scan-counted sum =

@@ -104,15 +104,15 @@ module _ (parents : List ℕ) (n : ℕ) (inside : Inside parents n) (ends : (f :
       let t = twice-triangle n in
       rw (mul-sub n n 1, mul-one n) (omega arith)
 
--- the first n of a longer list of parents have the same moves
-module _ (parents : List ℕ) (n : ℕ) (inside : Inside parents n) where
-  moves-take : (k f : ℕ) → f < n → moves parents k f ≡ moves (take n parents) k f
-  unfolding moves
-  moves-take zero f l = refl
-  moves-take (suc k) f l =
-      rw (getD-take n parents f 0 l) (ap (λ (m : ℕ). pick (topLevel parents f) 0 (suc m)) (moves-take k (getD parents f 0) (inside f l)))
+-- two lists that name the same parents below n, as an array and its first n
+pub moves-same : (a b : List ℕ) (n : ℕ) → Inside a n → ((x : ℕ) → x < n → getD a x 0 ≡ getD b x 0) → (k f : ℕ) → f < n → moves a k f ≡ moves b k f
+unfolding moves
+moves-same a b n inside same zero f l = refl
+moves-same a b n inside same (suc k) f l =
+    rw (← same f l) (ap (λ (m : ℕ). pick (topLevel a f) 0 (suc m)) (moves-same a b n inside same k (getD a f 0) (inside f l)))
 
-  pub total-take : (k m : ℕ) → m ≤ n → totalMoves parents k m ≡ totalMoves (take n parents) k m
-  unfolding totalMoves
-  total-take k zero l = refl
-  total-take k (suc m) l = rw (total-take k m (omega arith), moves-take k m l)
+pub total-take : (parents : List ℕ) (n : ℕ) → Inside parents n → (k m : ℕ) → m ≤ n → totalMoves parents k m ≡ totalMoves (take n parents) k m
+unfolding totalMoves
+total-take parents n inside k zero l = refl
+total-take parents n inside k (suc m) l =
+    rw (total-take parents n inside k m (omega arith), moves-same parents (take n parents) n inside (λ x h. sym (getD-take n parents x 0 h)) k m l)
