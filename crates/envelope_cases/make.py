@@ -46,18 +46,21 @@ def items(members, more=0, count=None, spare=b""):
 
 
 EMPTY = items([])
+SPARE = b"\xff"
 
 
-def field(parent, flags=0, repetition=b"", name=b""):
-    return record(u32(1) + u32(2) + u32(parent) + u16(0) + u16(flags) + repetition + string(name) + string() * 3)
+def field(parent, flags=0, repetition=b"", name=b"", spare=b""):
+    return record(u32(1) + u32(2) + u32(parent) + u16(0) + u16(flags) + repetition + string(name) + string() * 3 + spare)
 
 
 def column(column_type, bits, on_field):
     return record(u16(column_type) + u16(bits) + u32(on_field) + u32(0))
 
 
-def header(fields=(), columns=(), aliases=(), name=b"", description=b""):
-    return envelope(u64(0) + string(name) + string(description) + items(fields) + items(columns) + items(aliases))
+def header(fields=(), columns=(), aliases=(), name=b"", description=b"", features=u64(0), spare=b"", version=1, minimum=1, **parts):
+    """`parts` are those of the list of fields."""
+    lists = items(fields, **parts) + items(columns) + items(aliases)
+    return envelope(features + string(name) + string(description) + lists + spare, version, minimum)
 
 
 def flipped(content, place):
@@ -128,6 +131,144 @@ header_refused(9, "header_name_cut_in_a_sequence", header([field(0, name="θ".en
 header_refused(9, "header_characters_before_room", header([field(0, name=b"\xed\xa0\x80")]), (0, 0, 0))
 header_refused(9, "header_characters_before_chains", header([field(1), field(0, name=b"\xc0\x80")]))
 header_refused(14, "header_parent_before_characters", header([field(1, name=b"\xff")]))
+
+# The sum over all fields of the moves from the field to its self-parented top. The words lent are those of the result: the first gets the
+# sum, 0 for a refused header, and those behind it are kept. Where none is lent the code is 4294967295, whatever the header is.
+TOO_SHORT = 4294967295
+
+
+def walked(parents):
+    """The sum, with each field followed to its top."""
+    total = 0
+    for at in range(len(parents)):
+        while parents[at] != at:
+            at = parents[at]
+            total += 1
+    return total
+
+
+def moves(name, line, content, words, first_word, **more):
+    case(10, name, line + table(words, (first_word,)), words=(words,), first=content, **more)
+
+
+def moves_accepted(name, parents, total, content=None, words=1):
+    """`content` is the header where it has more than fields of these parents."""
+    assert walked(parents) == total, (name, walked(parents))
+    moves(name, " accepted", header([field(p) for p in parents]) if content is None else content, words, total)
+
+
+def moves_refused(number, name, content=b"", words=1, **more):
+    moves(name, f" refused 1 {number}", content, words, 0, **more)
+
+
+def moves_too_short(name, content=b"", **more):
+    case(10, name, f" refused {TOO_SHORT // 256} {TOO_SHORT % 256}" + table(0), first=content, **more)
+
+
+moves_accepted("moves_smallest", (), 0, SMALLEST)
+moves_accepted("moves_one_field", (0,), 0)
+moves_accepted("moves_two_tops", (0, 1), 0)
+moves_accepted("moves_parent_before_its_child", (0, 0), 1)
+moves_accepted("moves_parent_after_its_child", (1, 1), 1)
+# Chains of three fields, whose moves are 0, 1 and 2, in each order; the names have the fields from the top down.
+moves_accepted("moves_chain_of_3_rising", (0, 0, 1), 3)
+moves_accepted("moves_chain_of_3_falling", (1, 2, 2), 3)
+moves_accepted("moves_chain_0_2_1", (0, 2, 0), 3)
+moves_accepted("moves_chain_1_0_2", (1, 1, 0), 3)
+moves_accepted("moves_chain_1_2_0", (2, 1, 1), 3)
+moves_accepted("moves_chain_2_0_1", (2, 0, 2), 3)
+# 0, 4, 1, 3 and 2, each the child of the next: 4, 3, 2 and 1 moves.
+moves_accepted("moves_chain_there_and_back", (4, 3, 2, 2, 1), 10)
+# 512 times 511, by two: no header has more.
+moves_accepted("moves_chain_of_512_rising", [max(i - 1, 0) for i in range(512)], 130816)
+moves_accepted("moves_chain_of_512_falling", [min(i + 1, 511) for i in range(512)], 130816)
+moves_accepted("moves_star_of_9", (0,) * 9, 8)
+moves_accepted("moves_star_of_9_top_last", (8,) * 9, 8)
+moves_accepted("moves_star_of_9_top_between", (4,) * 9, 8)
+# Fifteen fields, of which 2 are at one move, 4 at two and 8 at three; and the same ones from the last to the first.
+moves_accepted("moves_two_children_each", [max(i - 1, 0) // 2 for i in range(15)], 34)
+moves_accepted("moves_two_children_each_falling", [14 - max(i - 1, 0) // 2 for i in reversed(range(15))], 34)
+# Two trees of a top, one child and one grandchild: the fields of one between those of the other, before and after their parents.
+moves_accepted("moves_two_trees", (0, 0, 1, 3, 3, 4), 6)
+moves_accepted("moves_two_trees_in_turn", (0, 1, 0, 1, 2, 3), 6)
+moves_accepted("moves_two_trees_crossed", (4, 5, 0, 1, 4, 5), 6)
+# The tops 0, 3 and 9. Below 0 are 1 and 5 (one move each), 2 (two), 4, 6 and 10 (three to five); below 3 are 7, 8 and 11 (one to three);
+# below 9 is none.
+FOREST = (0, 0, 5, 3, 2, 0, 4, 3, 7, 9, 6, 8)
+moves_accepted("moves_forest", FOREST, 22)
+moves_accepted("moves_forest_falling", [11 - p for p in reversed(FOREST)], 22)
+# A top with a chain of five on each side, and a chain that joins another half way.
+moves_accepted("moves_chains_of_5_on_both_sides", (1, 2, 3, 4, 5, 5, 5, 6, 7, 8, 9), 30)
+moves_accepted("moves_chain_that_joins_another", (1, 2, 3, 3, 5, 2), 11)
+
+# Columns, aliases, flags, names and dark marks make no difference.
+DARK = [column(0x1D, 5, i) for i in range(3)]
+moves_accepted("moves_columns", (1, 2, 2), 3, header([field(p) for p in (1, 2, 2)], [column(0x11, 32, i) for i in range(3)]))
+moves_accepted("moves_dark_fields", (1, 2, 2), 3, header([field(p) for p in (1, 2, 2)], DARK))
+moves_accepted("moves_dark_top", (1, 2, 2), 3, header([field(p) for p in (1, 2, 2)], DARK[2:]))
+moves_accepted("moves_flags", (1, 2, 2), 3, header([field(1, 2), field(2, 1, u64(512)), field(2, 3, u64(7), b"xy")]))
+moves_accepted("moves_all_kinds_of_records", (0, 1), 0, TWO_FIELDS)
+moves_accepted("moves_alphabets", (0,), 0, ALPHABETS)
+
+# Newer headers.
+CHAIN = [field(1), field(2), field(2)]
+moves_accepted("moves_version_2", (1, 2, 2), 3, header(CHAIN, version=2))
+moves_accepted("moves_version_65535", (1, 2, 2), 3, header(CHAIN, version=65535))
+moves_accepted("moves_feature_words_2", (1, 2, 2), 3, header(CHAIN, features=u64(1 << 63) + u64(0)))
+
+
+def moves_spare(where, fields=CHAIN, **parts):
+    """Refused at version 1, which is the minimum, and accepted at version 2."""
+    moves_refused(11, f"moves_spare_in_{where}", header(fields, **parts))
+    moves_accepted(f"moves_spare_in_{where}_version_2", (1, 2, 2), 3, header(fields, version=2, **parts))
+
+
+moves_spare("payload", spare=SPARE)
+moves_spare("payload_as_a_field", spare=field(0))
+moves_spare("field", [field(1), field(2, spare=SPARE), field(2)])
+# A field behind those that are counted is spare bytes, and has no moves.
+moves_spare("fields", CHAIN + [field(0)], count=3)
+
+# The header's refusals, of which 20 is none.
+CIRCLE = header([field(1), field(0)])
+moves_refused(1, "moves_of_1048577_bytes", zeros_for=1, zeros=LONGEST + 1)
+moves_refused(3, "moves_of_1048576_bytes", zeros_for=1, zeros=LONGEST)
+moves_refused(2, "moves_of_no_bytes")
+moves_refused(2, "moves_of_7_bytes", SMALLEST[:7])
+moves_refused(3, "moves_checksum_bit", flipped(SMALLEST, 47))
+moves_refused(3, "moves_parent_bit", flipped(header(CHAIN), 40))
+moves_refused(4, "moves_minimum_0", header(CHAIN, minimum=0))
+moves_refused(5, "moves_minimum_2", header(CHAIN, version=2, minimum=2))
+moves_refused(6, "moves_feature_bit_0", header(CHAIN, features=u64(1)))
+moves_refused(7, "moves_of_8_bytes", envelope(b""))
+moves_refused(7, "moves_third_field_missing", header(CHAIN[:2], count=3))
+moves_refused(7, "moves_fields_512_missing", header(count=512))
+moves_refused(8, "moves_field_is_a_list", header([EMPTY]))
+moves_refused(9, "moves_ill_formed_name", header([field(1), field(2), field(2, name=b"\xc0\x80")]))
+moves_refused(10, "moves_fields_513", header(count=513))
+moves_refused(12, "moves_flag_04", header([field(0, 4)]))
+moves_refused(13, "moves_column_bits_31", header(CHAIN, [column(0x11, 31, 0)]))
+moves_refused(14, "moves_parent_1_of_one", header([field(1)]))
+moves_refused(14, "moves_parent_3_of_three", header([field(1), field(2), field(3)]))
+moves_refused(14, "moves_parent_ffffffff", header([field(0), field(0xFFFFFFFF)]))
+moves_refused(14, "moves_parent_65536", header([field(0), field(65536)]))
+moves_refused(15, "moves_circle_of_two", CIRCLE)
+moves_refused(15, "moves_circle_of_three", header([field(1), field(2), field(0)]))
+moves_refused(15, "moves_circle_behind_a_top", header([field(0), field(2), field(1)]))
+moves_refused(15, "moves_circle_before_a_top", header([field(1), field(0), field(2)]))
+moves_refused(15, "moves_chain_into_a_circle", header([field(1), field(2), field(1)]))
+moves_refused(14, "moves_columns_before_circles", header([field(1), field(0)], [column(0x11, 32, 2)]))
+
+# Results of other lengths.
+moves_accepted("moves_result_of_2_words", (1, 2, 2), 3, words=2)
+moves_accepted("moves_result_of_3_words", (1, 2, 2), 3, words=3)
+moves_accepted("moves_result_of_64_words", FOREST, 22, words=64)
+moves_refused(15, "moves_refused_result_of_3_words", CIRCLE, 3)
+moves_refused(1, "moves_too_long_result_of_3_words", words=3, zeros_for=1, zeros=LONGEST + 1)
+moves_too_short("moves_result_of_no_words", header(CHAIN))
+moves_too_short("moves_result_of_no_words_smallest", SMALLEST)
+moves_too_short("moves_result_of_no_words_circle", CIRCLE)
+moves_too_short("moves_result_of_no_words_1048577_bytes", zeros_for=1, zeros=LONGEST + 1)
 
 # Footers.
 
@@ -293,7 +434,6 @@ def footer_spare(where, words, counts, rows=((), ()), clusters=EMPTY, first_clus
     footer_accepted(f"footer_spare_in_{where}_version_3", footer(clusters, version=3, minimum=2, **parts), words, counts, rows)
 
 
-SPARE = b"\xff"
 footer_spare("payload", (0, 0), (0, 0), spare=SPARE)
 footer_spare("extension", (0, 0), (0, 0), extension=items([], spare=SPARE))
 footer_spare("groups", (0, 0), (0, 0), groups=items([], spare=SPARE))

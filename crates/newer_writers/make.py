@@ -149,12 +149,23 @@ def told(kind, size):
     return {1: 14 * size + 32 + 4, 2: 20 + 8, 3: 80, 4: 20 + 8}[kind]
 
 
+# What is printed, in turn: the kind of its cases, its name, and how many changed words of a case are told apart. The sum of the moves is one word.
+PRINTED = (
+    (1, "header", told),
+    (1, "moves to the top", lambda kind, size: 1),
+    (2, "footer", told),
+    (4, "footer raised from version 1", told),
+    (3, "page list", told),
+    (3, "page list and its row", told),
+)
+
+
 def main():
     sized = list(cases())
     lines = []
-    for kind, name in ((1, "header"), (2, "footer"), (4, "footer raised from version 1"), (3, "page list"), (3, "page list and its row")):
+    for kind, name, words_told in PRINTED:
         sizes = [size for size, c in sized if c[0] == kind]
-        n, words = 256 * len(sizes), sum(told(kind, size) for size in sizes)
+        n, words = 256 * len(sizes), sum(words_told(kind, size) for size in sizes)
         lines.append(f"{name}: {len(sizes)} added bytes, each of 256 values: {n} read the same, {n} refused 11 where the version is the minimum, {words} changed words told apart\n")
     # A page list beside a newer header is itself the same, and so is its row.
     changed = sum(256 for _, c in sized if (c[0], c[4]) == (3, 2))

@@ -45,7 +45,8 @@ pub fn call(case: [u64; 10], first: &[u8], second: &[u8]) {
         6 => show::hex(exports::rnt_crc32(first) as u64, 8),
         7 => call_place(case, first, second),
         8 => call_pairing(case, first, second),
-        _ => call_file(case, first, second),
+        9 => call_file(case, first, second),
+        _ => call_moves(case, first),
     }
 }
 
@@ -63,6 +64,15 @@ fn call_header(case: [u64; 10], envelope: &[u8]) {
     show::words(fields);
     show::words(columns);
     show::words(aliases);
+}
+
+// The words lent are those of the result, the first of which gets the sum of the moves.
+fn call_moves(case: [u64; 10], envelope: &[u8]) {
+    let mut a = [9u64; 64];
+    let result = lent(&mut a, case[FIRST_TABLE]);
+    let code = exports::rnt_parent_moves(envelope, result);
+    show::answer(code, &[], 0);
+    show::words(result);
 }
 
 fn call_footer(case: [u64; 10], header: &[u8], footer: &[u8]) {

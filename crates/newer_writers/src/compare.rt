@@ -7,10 +7,13 @@ use rows::NO_CHECKSUM as NONE;
 // differ; the words of what it says go to a table that is not needed any more.
 pub const SAME: u64 = 8;
 
-// Kinds beside those of a case: a page list for a row that has its checksum, and the newer one for the row of the plain one.
+// Kinds beside those of a case: a page list for a row that has its checksum, and the newer one for the row of the plain one; and the moves
+// of a header's fields to their tops, whose sum is the one word of a table.
 pub const PAIRING: u64 = 5;
 
 pub const OLD_ROW: u64 = 6;
+
+pub const MOVES: u64 = 7;
 
 // One is added to word number `word` of the newer tables, counted through all of them, where they have it.
 pub fn compare(bytes: &[u8], numbers: [u64; 11], kind: u64, word: u64) -> u64 {
@@ -30,6 +33,7 @@ pub fn compare(bytes: &[u8], numbers: [u64; 11], kind: u64, word: u64) -> u64 {
     match kind {
         1 => headers(header, newer_header, word),
         2 | 4 => footers(header, plain, newer_header, newer, numbers, word),
+        MOVES => sums(header, newer_header, word),
         _ => page_lists(header, plain, newer_header, newer, kind, length, word),
     }
 }
@@ -50,6 +54,18 @@ fn headers(old: &[u8], new: &[u8], word: u64) -> u64 {
         return SAME;
     }
     answers::tell_header(y, &mut g) as u64
+}
+
+fn sums(old: &[u8], new: &[u8], word: u64) -> u64 {
+    let mut s = [9u64; 1];
+    let x = answers::tell_moves(moves::parent_moves(old), &mut s);
+    let mut t = [9u64; 1];
+    let y = answers::tell_moves(moves::parent_moves(new), &mut t);
+    change(&mut t, word, 0);
+    if x == 0 && y == 0 && s[0] == t[0] {
+        return SAME;
+    }
+    y as u64
 }
 
 // The rows of a plain footer of version 1 are compared with the checksums that it gets where it is raised.

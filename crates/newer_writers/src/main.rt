@@ -2,10 +2,11 @@
 // frame or of the payload. That byte takes all 256 values, each with a version of its own from 2 on, the checksums are put right, and the
 // readers must leave the same tables, but for the checksums that a footer of version 1 gets where it is raised; a table of which one word was
 // changed must be told apart, and the same byte must be refused where the version is the minimum. A page list is also read for a row that
-// has its checksum, which is put right too; before that it must be refused 26.
+// has its checksum, which is put right too; before that it must be refused 26. Of a header the moves to the top must be as many, too.
 mod case;
 mod compare;
 
+use compare::MOVES;
 use compare::OLD_ROW;
 use compare::PAIRING;
 use libc::STDOUT_FILENO;
@@ -53,6 +54,7 @@ fn run_cases(file: i32) {
 
 fn print_all(counts: &[u64; 56]) {
     print_counts(b"header: ", counts, 1);
+    print_counts(b"moves to the top: ", counts, MOVES);
     print_counts(b"footer: ", counts, 2);
     print_counts(b"footer raised from version 1: ", counts, 4);
     print_counts(b"page list: ", counts, 3);
@@ -89,7 +91,7 @@ fn add(counts: &mut [u64; 56], kind: u64, what: u64) {
     }
 }
 
-// Reads the next case, if there is one, and runs it; a page list also as a pairing.
+// Reads the next case, if there is one, and runs it; a header also for its moves, and a page list as a pairing.
 fn next_case(file: i32, counts: &mut [u64; 56]) {
     let mut bytes = [0u8; 2092];
     if io::read_full(file, &mut bytes) < case::BYTES {
@@ -98,6 +100,9 @@ fn next_case(file: i32, counts: &mut [u64; 56]) {
     let numbers = case::numbers_of(&bytes);
     let kind = numbers[case::KIND];
     run_case(&mut bytes, numbers, kind, counts);
+    if kind == 1 {
+        run_case(&mut bytes, numbers, MOVES, counts);
+    }
     if kind == 3 {
         run_case(&mut bytes, numbers, PAIRING, counts);
     }
