@@ -15,9 +15,9 @@ use Rattle.frames.specs.Frames.{atMost}
 use Rattle.utf8.specs.WellFormed.{wellFormed, goesOn}
 use Rattle.rows.specs.Words.{mostFields}
 use Rattle.parents.specs.Parents.{allReach}
-use Rattle.parents.specs.Moves.{allMoves}
-use Rattle.parents.specs.Distances.{mostMoves, chainOf}
-use Rattle.parents.proofs.Distances.{chains-reach-cap}
+use Rattle.chain_moves.specs.Moves.{allMoves}
+use Rattle.chain_moves.specs.Distances.{mostMoves, chainOf}
+use Rattle.chain_moves.proofs.Distances.{chains-reach-cap}
 use Rattle.header.specs.Header.{Header}
 use Rattle.header.specs.Tables.{headerOf, parentsOf}
 use Rattle.moves.specs.declared.MovesAnswer.the-variants.{Moves}

@@ -11,8 +11,8 @@ use Rattle.envelope.specs.Envelope.{versioned, opened}
 use Rattle.envelope.specs.Features.{features}
 use Rattle.records.specs.Records.{repetition, fieldHead, fieldTexts, field, texts}
 use Rattle.parents.specs.Parents.{meets, allReach}
-use Rattle.parents.specs.Moves.{moves, totalMoves, allMoves}
-use Rattle.parents.specs.Distances.{chainOf}
+use Rattle.chain_moves.specs.Moves.{moves, totalMoves, allMoves}
+use Rattle.chain_moves.specs.Distances.{chainOf}
 use Rattle.header.specs.Header.{columnsAfter, aliasesAfter, lists, payload}
 use Rattle.header.specs.Tables.{headerOf, chained}
 use Rattle.moves.specs.Moves.{answer}

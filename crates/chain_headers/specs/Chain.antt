@@ -3,7 +3,7 @@ use Prim.Native.Nat.{ℕ, _≤_}
 use mathlib.Core.List.{List, [], _∷_, map}
 use mathlib.Core.Path.{_≡_}
 use Rattle.rows.specs.Words.{mostFields}
-use Rattle.parents.specs.Distances.{mostMoves, chainOf}
+use Rattle.chain_moves.specs.Distances.{mostMoves, chainOf}
 use Rattle.header.specs.Tables.{headerOf}
 use Rattle.moves.specs.Moves.{Answered}
 use Rattle.moves.specs.declared.MovesAnswer.{MovesAnswer}

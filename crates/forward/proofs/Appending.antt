@@ -18,7 +18,7 @@ use Rattle.column_type.specs.Types.{known}
 use Rattle.header.specs.Header.{Header}
 use Rattle.records.specs.Records.{aliased}
 use Rattle.parents.specs.Parents.{Inside, allReach}
-use Rattle.parents.specs.Moves.{allMoves}
+use Rattle.chain_moves.specs.Moves.{allMoves}
 use Rattle.header.specs.Tables.{headerOf, roomFor}
 use Rattle.parents.specs.Dark.{dark}
 use Rattle.rows.proofs.TableLaws.{flat-is, flat-length, flat-join}

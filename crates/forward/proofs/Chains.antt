@@ -10,10 +10,10 @@ use borrow.Author.Tests.{eqb-true, eq-eqb, ne-eqb, leb-true, leb-false}
 use lib.ListN.{length, getD, length-append, List·getD-append}
 use Rattle.numbers.specs.Choice.{pick}
 use Rattle.parents.specs.Parents.{Inside, topLevel, meets, reaches, allReach, isAbove}
-use Rattle.parents.specs.Moves.{totalMoves, allMoves}
+use Rattle.chain_moves.specs.Moves.{totalMoves, allMoves}
 use Rattle.parents.proofs.ChainLaws.{meets-here, meets-le, reaches-same, isAbove-same}
 use Rattle.parents.proofs.EndlessLaws.{reach-each, reach-all}
-use Rattle.parents.proofs.MovesLaws.{moves-top, moves-settled, moves-same}
+use Rattle.chain_moves.proofs.MovesLaws.{moves-top, moves-settled, moves-same}
 
 -- from a self-parented field no other is reached
 above-top : (parents : List ℕ) (k f g : ℕ) → topLevel parents g ≡ true → isAbove parents k f g ≡ eqb f g

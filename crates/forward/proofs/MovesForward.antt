@@ -6,7 +6,7 @@ use mathlib.Core.Path.{_≡_, sym, ap, subst, _∙_}
 use lib.ListN.{length}
 use Rattle.wire.specs.Reading.{Step, found, refused}
 use Rattle.rows.specs.declared.ColumnRow.{ColumnRow}
-use Rattle.parents.specs.Moves.{allMoves}
+use Rattle.chain_moves.specs.Moves.{allMoves}
 use Rattle.header.specs.Header.{Header}
 use Rattle.header.specs.Tables.{headerOf, parentsOf}
 use Rattle.moves.specs.Moves.{answer}

@@ -14,9 +14,9 @@ use Rattle.wire.specs.Reading.{Step, found, refused, mapped}
 use Rattle.wire.proofs.Laws.{Mapped, mapped-found}
 use Rattle.rows.specs.declared.FieldRow.{FieldRow}
 use Rattle.parents.specs.Parents.{Inside, allReach}
-use Rattle.parents.specs.Moves.{allMoves, movesOf}
-use Rattle.parents.specs.Distances.{Rooted}
-use Rattle.parents.proofs.Distances.{moves-front}
+use Rattle.chain_moves.specs.Moves.{allMoves, movesOf}
+use Rattle.chain_moves.specs.Distances.{Rooted}
+use Rattle.chain_moves.proofs.Distances.{moves-front}
 use Rattle.header.specs.Header.{Header}
 use Rattle.header.specs.Tables.{headerOf, parentsOf}
 use Rattle.header.proofs.HeaderLaws.{header-reaches, fields-few, parents-inside}

@@ -8,9 +8,9 @@ use native.Mathlib.Omega.{arith}
 use lib.ListN.{length}
 use Rattle.numbers.specs.Choice.{pick}
 use Rattle.wire.specs.Reading.{Step, found, refused}
-use Rattle.parents.specs.Moves.{allMoves}
-use Rattle.parents.specs.Distances.{mostMoves, chainOf}
-use Rattle.parents.proofs.Distances.{all-moves-as-defined, all-moves-capped, chains-reach-cap}
+use Rattle.chain_moves.specs.Moves.{allMoves}
+use Rattle.chain_moves.specs.Distances.{mostMoves, chainOf}
+use Rattle.chain_moves.proofs.Distances.{all-moves-as-defined, all-moves-capped, chains-reach-cap}
 use Rattle.header.specs.Header.{Header}
 use Rattle.header.specs.Tables.{headerOf, parentsOf, roomFor, tablesOf}
 use Rattle.header.specs.Tables.{answer as headerAnswer}

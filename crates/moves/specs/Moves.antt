@@ -3,7 +3,7 @@ use mathlib.Core.List.{[], _∷_}
 use mathlib.Core.Path.{_≡_}
 use Rattle.wire.specs.Reading.{Step, found, refused}
 use Rattle.outcome.specs.Outcome.{Outcome, acceptedWith, refusedIn}
-use Rattle.parents.specs.Moves.{allMoves}
+use Rattle.chain_moves.specs.Moves.{allMoves}
 use Rattle.header.specs.Header.{Header}
 use Rattle.header.specs.Tables.{parentsOf}
 use Rattle.moves.specs.declared.MovesAnswer.{MovesAnswer}

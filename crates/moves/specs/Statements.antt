@@ -5,7 +5,7 @@ use mathlib.Core.Logic.{_↔_}
 use mathlib.Core.Path.{_≡_}
 use lib.ListN.{length}
 use Rattle.wire.specs.Reading.{found}
-use Rattle.parents.specs.Distances.{SumOfMoves, mostMoves, chainOf}
+use Rattle.chain_moves.specs.Distances.{SumOfMoves, mostMoves, chainOf}
 use Rattle.header.specs.Header.{Header}
 use Rattle.header.specs.Tables.{headerOf, parentsOf}
 use Rattle.header.specs.Tables.{Answered as HeaderAnswered}

@@ -26,7 +26,7 @@ pub fn parent_moves(envelope: &[u8]) -> MovesAnswer
     ) {
         ScanStep::Found(scan, _) => {
             let lists = scan.lists;
-            let total = parents::moves::total_moves(&parents, lists.fields);
+            let total = chain_moves::total_moves(&parents, lists.fields);
             MovesAnswer::Moves(total as u64)
         }
         ScanStep::Refused(f) => MovesAnswer::Refused(f.number),

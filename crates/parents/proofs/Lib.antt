@@ -3,9 +3,5 @@ pub mod InsideLaws
 pub mod ChainLaws
 pub mod Following
 pub mod EndlessLaws
-pub mod MovesLaws
-pub mod Climbing
-pub mod Summing
-pub mod Distances
 pub mod Darkening
 pub mod DarkLaws

@@ -1,7 +1,7 @@
 // Parent chains: whether every one ends, and which fields are dark. Arrays of parents and of marks have a place for each field; a
 // place in them comes from a field's number and never from a column's.
 mod dark;
-pub mod moves;
+pub mod inside;
 mod walk;
 
 use rows::FieldNumber;
@@ -23,7 +23,7 @@ pub enum Chains {
 pub fn endless_chain(parents: [u16; rows::MOST_FIELDS], n: usize) -> Chains
     ensures { λ r. ⌜ r ≡ chainsOf parents n ⌝ }
 {
-    if walk::all_inside(&parents, n) {
+    if inside::all_inside(&parents, n) {
         return walk::lowest_endless(parents, n);
     }
     Chains::AllEnd
@@ -39,7 +39,7 @@ pub fn dark_marks(
 ) -> [u8; rows::MOST_FIELDS]
     ensures { λ r. ⌜ ((f : ℕ) → getD r f 0 ≡ darkMark (now (parents .entry)) n (columnsIn (now (columns .entry)) count) f) ⌝ }
 {
-    if walk::all_inside(parents, n) {
+    if inside::all_inside(parents, n) {
         return dark::marks_of(parents, n, columns, count);
     }
     [0u8; rows::MOST_FIELDS]

@@ -6,29 +6,8 @@ ghost use mathlib.Core.Bool.{true};
 ghost use Prim.Native.Nat.{_+_, _<_, _≤_};
 ghost use lib.ListN.{length, getD, take};
 ghost use Rattle.rows.specs.Words.{mostFields};
-ghost use Rattle.parents.specs.Parents.{inside, Inside, reaches, endless};
+ghost use Rattle.parents.specs.Parents.{Inside, reaches, endless};
 ghost use Rattle.parents.specs.Marks.{Marked};
-
-// There are at most as many fields as a header may have and as there are parents, and the parent of each is one of them.
-pub fn all_inside(parents: &[u16], n: usize) -> bool
-    ensures { λ r. ⌜ r ≡ inside (now (parents .entry)) n ⌝ }
-{
-    if rows::MOST_FIELDS < n {
-        return false;
-    }
-    if parents.len() < n {
-        return false;
-    }
-    let mut f = 0;
-    while f < n {
-        if (parents[f] as usize) < n {
-            f += 1;
-        } else {
-            return false;
-        }
-    }
-    true
-}
 
 pub fn parent_of(parents: &[u16], field: FieldNumber) -> FieldNumber
     requires { ⌜ field .0 < length (now parents) ⌝ }

@@ -9,17 +9,18 @@ use native.Mathlib.Decide.{ℕ-discrete}
 use lib.Dec.{eqb}
 use lib.ListN.{length, getD, set, length-set, replicate, length-replicate, getD-replicate}
 use Rattle.numbers.specs.Choice.{pick}
 use Rattle.parents.specs.Parents.{Inside, topLevel, reaches, endless}
-use Rattle.parents.specs.Moves.{moves, climbed}
-use Rattle.parents.specs.Marks.{Marked, Followed, Known}
+use Rattle.chain_moves.specs.Moves.{moves, climbed}
+use Rattle.parents.specs.Marks.{Marked}
+use Rattle.chain_moves.specs.Followed.{Followed, Known}
 use Rattle.parents.specs.declared.Chains.the-variants.{AllEnd}
-use Rattle.parents.specs.declared.moves.Distance.the-variants.{Away, Never}
+use Rattle.chain_moves.specs.declared.Distance.the-variants.{Away, Never}
 use Rattle.numbers.proofs.Choice.{clash}
 use Rattle.parents.proofs.Counting.{count-le}
 use Rattle.parents.proofs.Following.{Walk, Ends, at-set, blank, blank-less, marked-none, walk-starts, walk-goes, walk-ends, walk-loops}
 use Rattle.parents.proofs.EndlessLaws.{lowest}
-use Rattle.parents.proofs.MovesLaws.{moves-top, moves-up}
+use Rattle.chain_moves.proofs.MovesLaws.{moves-top, moves-up}
 use Rattle.parents.proofs.ChainLaws.{meets-here}
 
 -- the walk from start has come to f by so many moves
 pub record Climbing (parents marks steps : List ℕ) (n start f count : ℕ) : Type 0 where

@@ -13,14 +13,14 @@ use borrow.Author.Tests.{eq-eqb, ne-eqb}
 use Rattle.numbers.specs.Choice.{pick}
 use Rattle.numbers.proofs.Choice.{which, clash}
 use Rattle.rows.specs.Words.{mostFields}
 use Rattle.parents.specs.declared.Chains.the-variants.{AllEnd}
 use Rattle.parents.specs.Parents.{Inside, ancestor, meets, topLevel, reaches, endless}
-use Rattle.parents.specs.Moves.{moves, totalMoves, allMoves, movesOf}
-use Rattle.parents.specs.Distances.{TopAfter, sumBelow, SumOfMoves, Rooted, chainOf, AllMovesAsDefined, AllMovesCapped, ChainsReachCap}
+use Rattle.chain_moves.specs.Moves.{moves, totalMoves, allMoves, movesOf}
+use Rattle.chain_moves.specs.Distances.{TopAfter, sumBelow, SumOfMoves, Rooted, chainOf, AllMovesAsDefined, AllMovesCapped, ChainsReachCap}
 use Rattle.parents.proofs.InsideLaws.{inside-front}
 use Rattle.parents.proofs.ChainLaws.{meets-here, meets-up, meets-le}
 use Rattle.parents.proofs.EndlessLaws.{all-reach-iff, reach-each, reach-all}
-use Rattle.parents.proofs.MovesLaws.{moves-top, moves-up, total-bound}
+use Rattle.chain_moves.proofs.MovesLaws.{moves-top, moves-up, total-bound}
 
 module _ (parents : List ℕ) where
   top-here : (f : ℕ) → topLevel parents f ≡ true → TopAfter parents 0 f

@@ -11,11 +11,11 @@ use native.Mathlib.Decide.{le-ind}
 use lib.ListN.{getD, take}
 use lib.Seq.{getD-take}
 use Rattle.numbers.specs.Choice.{pick}
 use Rattle.parents.specs.Parents.{Inside, meets, topLevel, reaches}
-use Rattle.parents.specs.Moves.{moves, totalMoves}
+use Rattle.chain_moves.specs.Moves.{moves, totalMoves}
 use Rattle.parents.proofs.Counting.{count, count-all, search-below}
 use Rattle.numbers.proofs.Choice.{which}
 use Rattle.parents.proofs.ChainLaws.{meets-down, meets-more, meets-le, levels, crossing}
 
 module _ (parents : List ℕ) where
   pub moves-top : (k f : ℕ) → topLevel parents f ≡ true → moves parents k f ≡ 0

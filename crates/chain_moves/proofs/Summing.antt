@@ -8,15 +8,15 @@ use native.Mathlib.Omega.{arith}
 use lib.ListN.{length, getD, set, length-set, take, replicate}
 use Rattle.numbers.specs.Choice.{pick}
 use Rattle.numbers.proofs.Choice.{clash}
 use Rattle.parents.specs.Parents.{Inside, reaches, endless}
-use Rattle.parents.specs.Moves.{moves, totalMoves, movesWhere, climbed}
-use Rattle.parents.specs.Marks.{Followed, Known}
-use Rattle.parents.specs.declared.moves.Distance.{Distance}
-use Rattle.parents.specs.declared.moves.Distance.the-variants.{Away, Never}
+use Rattle.chain_moves.specs.Moves.{moves, totalMoves, movesWhere, climbed}
+use Rattle.chain_moves.specs.Followed.{Followed, Known}
+use Rattle.chain_moves.specs.declared.Distance.{Distance}
+use Rattle.chain_moves.specs.declared.Distance.the-variants.{Away, Never}
 use Rattle.parents.proofs.Following.{at-set}
 use Rattle.parents.proofs.EndlessLaws.{endless-more, endless-found, endless-take}
-use Rattle.parents.proofs.MovesLaws.{total-more, total-take}
-use Rattle.parents.proofs.Climbing.{followed-none, known-none}
+use Rattle.chain_moves.proofs.MovesLaws.{total-more, total-take}
+use Rattle.chain_moves.proofs.Climbing.{followed-none, known-none}
 
 -- the moves from the fields below f are counted
 pub record Summing (parents marks steps depths : List ℕ) (n f total : ℕ) : Type 0 where

@@ -4,8 +4,8 @@ use mathlib.Core.Bool.{true}
 use native.Mathlib.Omega.{arith}
 use Rattle.parents.specs.Parents.{insideUpTo}
 use Rattle.parents.proofs.InsideLaws.{up-to-more, inside-reached, inside-many, inside-more, inside-not}
-use Rattle.parents.proofs.walk.all_inside.Statement.{statement}
-use Rattle.parents.proofs.walk.all_inside.Tie as tie
+use Rattle.parents.proofs.inside.all_inside.Statement.{statement}
+use Rattle.parents.proofs.inside.all_inside.Tie as tie
 
 abbrev Inv-loop : tie.InvT-loop
 Inv-loop parents n f₀ f = (f ≤ n) × (insideUpTo parents n f ≡ true)

@@ -3,10 +3,10 @@ use mathlib.Core.Path.{sym, _∙_}
 use native.Mathlib.Omega.{arith}
 use borrow.Author.Needs.{needs}
 use Rattle.rows.specs.Words.{mostFields}
-use Rattle.parents.proofs.MovesLaws.{sum-le}
-use Rattle.parents.proofs.Summing.{Summing, sum-starts, sum-goes, sum-never, sum-ends}
-use Rattle.parents.proofs.moves.sum_of_moves.Statement.{statement}
-use Rattle.parents.proofs.moves.sum_of_moves.Tie as tie
+use Rattle.chain_moves.proofs.MovesLaws.{sum-le}
+use Rattle.chain_moves.proofs.Summing.{Summing, sum-starts, sum-goes, sum-never, sum-ends}
+use Rattle.chain_moves.proofs.sum_of_moves.Statement.{statement}
+use Rattle.chain_moves.proofs.sum_of_moves.Tie as tie
 
 abbrev Inv-loop : tie.InvT-loop
 Inv-loop parents n marks₀ steps₀ depths₀ total₀ f₀ marks steps depths total f = Summing parents marks steps depths n f total

@@ -1,9 +1,9 @@
 use mathlib.Core.Path.{sym, _∙_}
-use Rattle.parents.specs.Moves.{movesOf}
+use Rattle.chain_moves.specs.Moves.{movesOf}
 use Rattle.parents.proofs.InsideLaws.{inside-few, inside-is}
 use borrow.Author.Needs.{needs}
-use Rattle.parents.proofs.moves.total_moves.Statement.{statement}
-use Rattle.parents.proofs.moves.total_moves.Tie as tie
+use Rattle.chain_moves.proofs.total_moves.Statement.{statement}
+use Rattle.chain_moves.proofs.total_moves.Tie as tie
 
 all-inside-requires : tie.Need-all-inside-requires
 all-inside-requires c κs = search needs

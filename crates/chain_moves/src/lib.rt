@@ -1,15 +1,13 @@
 // How far the fields are from their self-parented fields.
-use crate::walk::all_inside;
-use crate::walk::parent_of;
 use rows::FieldNumber;
 ghost use mathlib.Core.Path.{_≡_};
 ghost use mathlib.Core.Bool.{true};
 ghost use Prim.Native.Nat.{_+_, _<_, _≤_};
 ghost use lib.ListN.{length, take};
 ghost use Rattle.rows.specs.Words.{mostFields};
 ghost use Rattle.parents.specs.Parents.{Inside, reaches, endless};
-ghost use Rattle.parents.specs.Moves.{climbed, totalMoves, movesWhere, movesOf};
-ghost use Rattle.parents.specs.Marks.{Followed, Known};
+ghost use Rattle.chain_moves.specs.Moves.{climbed, totalMoves, movesWhere, movesOf};
+ghost use Rattle.chain_moves.specs.Followed.{Followed, Known};
 
 // How many moves from a field its self-parented field is away, or that its chain never ends.
 pub enum Distance {
@@ -35,24 +33,23 @@ fn climb(
     ensures { λ r. ⌜ (reaches (now (parents .entry)) n (start .0) ≡ true → Followed (now (parents .entry)) (now (marks .exit)) (now (steps .exit)) n (start .0 + 1)) ⌝ }
 {
     let stamp = (start.0 + 1) as u16;
-    let mut f = start;
+    let mut f = start.0 as usize;
     let mut count = 0u16;
     loop {
-        let up = parent_of(parents, f);
-        if up.0 == f.0 {
+        let up = parents[f] as usize;
+        if up == f {
             return Distance::Away(count);
         }
-        let at = f.0 as usize;
-        let mark = marks[at];
+        let mark = marks[f];
         if mark == stamp {
             return Distance::Never;
         }
         if mark != 0 {
             let depth = depths[mark as usize - 1];
-            return Distance::Away(count + (depth - steps[at]));
+            return Distance::Away(count + (depth - steps[f]));
         }
-        marks[at] = stamp;
-        steps[at] = count;
+        marks[f] = stamp;
+        steps[f] = count;
         count += 1;
         f = up;
     }
@@ -95,7 +92,7 @@ fn sum_of_moves(parents: &[u16], n: usize) -> usize
 pub fn total_moves(parents: &[u16], n: usize) -> usize
     ensures { λ r. ⌜ r ≡ movesOf (now (parents .entry)) n ⌝ }
 {
-    if all_inside(parents, n) {
+    if parents::inside::all_inside(parents, n) {
         return sum_of_moves(parents, n);
     }
     0

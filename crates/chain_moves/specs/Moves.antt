@@ -6,11 +6,11 @@ use mathlib.Core.Logic.{_↔_}
 use mathlib.Core.Path.{_≡_}
 use lib.ListN.{length, getD, take}
 use Rattle.numbers.specs.Choice.{pick}
 use Rattle.parents.specs.Parents.{inside, Inside, ancestor, topLevel, reaches, allReach, endless}
 use Rattle.parents.specs.declared.Chains.{Chains}
 use Rattle.parents.specs.declared.Chains.the-variants.{AllEnd, Endless}
-use Rattle.parents.specs.declared.moves.Distance.{Distance}
-use Rattle.parents.specs.declared.moves.Distance.the-variants.{Away, Never}
+use Rattle.chain_moves.specs.declared.Distance.{Distance}
+use Rattle.chain_moves.specs.declared.Distance.the-variants.{Away, Never}
 
 -- how many moves from f its self-parented field is away, counted up to k
 unfoldable pub moves : List ℕ → ℕ → ℕ → ℕ

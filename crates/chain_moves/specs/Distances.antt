@@ -5,8 +5,8 @@ use mathlib.Core.Bool.{true, false}
 use mathlib.Core.Logic.{_↔_}
 use mathlib.Core.Path.{_≡_}
 use lib.ListN.{length}
 use Rattle.parents.specs.Parents.{Inside, ancestor, topLevel, allReach}
-use Rattle.parents.specs.Moves.{allMoves}
+use Rattle.chain_moves.specs.Moves.{allMoves}
 
 -- k moves up from f stands a self-parented field, and none before it
 pub record TopAfter (parents : List ℕ) (k f : ℕ) : Type 0 where

@@ -1,0 +1,4 @@
+pub mod MovesLaws
+pub mod Climbing
+pub mod Summing
+pub mod Distances
