@@ -1,31 +1,25 @@
 -- A header whose fields are one chain is accepted, and reaches the cap.
-use Prim.Native.Nat.{ℕ, zero, suc, _+_, _*_, _-_, _^_, _≤_, _<_}
+use Prim.Native.Nat.{ℕ, zero, suc, _+_, _*_, _-_, _≤_, _<_}
 use mathlib.Core.List.{List, [], _∷_, _++_, map}
-use mathlib.Core.Bool.{Bool, true}
-use mathlib.Core.Path.{_≡_, refl, sym, ap, _∙_, subst}
+use mathlib.Core.Path.{_≡_, refl, ap, _∙_}
 use native.Mathlib.Omega.{arith}
-use lib.ListN.{length, getD, length-append, length-map}
-use lib.Dec.{leb, ltb}
+use lib.ListN.{length, length-append, length-map}
 use borrow.Author.Tests.{lt-ltb, le-leb}
 use Rattle.checksum.specs.Crc.{crc32}
 use Rattle.numbers.specs.Lists.{Each}
 use Rattle.numbers.proofs.Lists.{each-append}
-use Rattle.wire.specs.Reading.{unless}
-use Rattle.frames.specs.Frames.{atMost}
 use Rattle.utf8.specs.WellFormed.{wellFormed, goesOn}
 use Rattle.rows.specs.Words.{mostFields}
-use Rattle.parents.specs.Parents.{allReach}
 use Rattle.chain_moves.specs.Moves.{allMoves}
-use Rattle.chain_moves.specs.Distances.{mostMoves, chainOf}
+use Rattle.chain_moves.specs.Distances.{chainOf}
 use Rattle.chain_moves.proofs.Distances.{chains-reach-cap}
-use Rattle.header.specs.Header.{Header}
-use Rattle.header.specs.Tables.{headerOf, parentsOf}
+use Rattle.header.specs.Tables.{parentsOf}
 use Rattle.moves.specs.declared.MovesAnswer.the-variants.{Moves}
 use Rattle.moves.proofs.Laws.{answer-found}
 use Rattle.tree.specs.Bytes.{spelled}
 use Rattle.tree.specs.EnvelopeTree.{unsummed, sealed}
 use Rattle.tree.specs.Shape.{Framed, framed, bare, ValidItems, recordShape, renderItems, recordBytes, listBytes}
-use Rattle.tree.specs.HeaderTree.{FieldContent, HeaderContent, PayloadContent, headerContent, headShape, stringsShape, fieldShape, textsShape, listsShape, payloadShape, featureWords, headerCarrier, parentsIn, HeaderTree, renderHeader, tablesOf, RightHeader}
+use Rattle.tree.specs.HeaderTree.{FieldContent, HeaderContent, PayloadContent, headerContent, headShape, stringsShape, fieldShape, textsShape, listsShape, payloadShape, featureWords, parentsIn, RightHeader}
 use Rattle.tree.specs.Spelling.{standard}
 use Rattle.tree.proofs.Place.{length-spelled}
 use Rattle.tree.proofs.Writing.{list-long, one-word, standard-content, standard-keeps}

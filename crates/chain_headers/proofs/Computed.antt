@@ -1,5 +1,4 @@
 -- The chain of three fields, read by the definitions.
-use Prim.Native.Nat.{ℕ}
 use mathlib.Core.Path.{_≡_, refl, _∙_}
 use Rattle.numbers.specs.Numbers.{little}
 use Rattle.checksum.specs.Crc.{shifted, bits, byte, fold, crc32}

@@ -1,5 +1,5 @@
 -- A chain followed with its moves counted: what holds at each field on the way, and what the outcome then says. Assumes nothing.
-use Prim.Native.Nat.{ℕ, zero, suc, _+_, _-_, _≤_, _<_}
+use Prim.Native.Nat.{ℕ, zero, _+_, _-_, _≤_, _<_}
 use mathlib.Core.Path.{_≡_, refl, sym, ap, _∙_}
 use mathlib.Core.Logic.{⊎-elim}
 use mathlib.Core.Bool.{true, false}
@@ -8,12 +8,9 @@ use native.Mathlib.Omega.{arith}
 use native.Mathlib.Decide.{ℕ-discrete}
 use lib.Dec.{eqb}
 use lib.ListN.{length, getD, set, length-set, replicate, length-replicate, getD-replicate}
-use Rattle.numbers.specs.Choice.{pick}
 use Rattle.parents.specs.Parents.{Inside, topLevel, reaches, endless}
 use Rattle.chain_moves.specs.Moves.{moves, climbed}
-use Rattle.parents.specs.Marks.{Marked}
 use Rattle.chain_moves.specs.Followed.{Followed, Known}
-use Rattle.parents.specs.declared.Chains.the-variants.{AllEnd}
 use Rattle.chain_moves.specs.declared.Distance.the-variants.{Away, Never}
 use Rattle.numbers.proofs.Choice.{clash}
 use Rattle.parents.proofs.Counting.{count-le}

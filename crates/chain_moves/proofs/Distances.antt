@@ -1,8 +1,8 @@
 -- Moves with no bound on how many there are, the cap on their sum, and the chain that reaches it. Assumes nothing.
-use Prim.Native.Nat.{ℕ, zero, suc, _+_, _*_, _-_, _/_, _≤_, _<_}
-use mathlib.Core.Path.{_≡_, refl, sym, ap, ap₂, _∙_}
+use Prim.Native.Nat.{ℕ, zero, suc, _+_, _*_, _-_, _≤_, _<_}
+use mathlib.Core.Path.{_≡_, refl, sym, ap, _∙_}
 use mathlib.Core.Logic.{⊎-elim}
-use mathlib.Core.Bool.{Bool, true, false}
+use mathlib.Core.Bool.{true, false}
 use mathlib.Core.List.{List, [], _∷_, _++_}
 use native.Mathlib.Omega.{arith}
 use native.Mathlib.Nat.{mul-one, mul-suc, suc-mul, mul-sub}
@@ -10,15 +10,14 @@ use native.Mathlib.Decide.{decLe}
 use lib.ListN.{length, getD, take, length-append, List·getD-append}
 use lib.Seq.{getD-append-add}
 use borrow.Author.Tests.{eq-eqb, ne-eqb}
-use Rattle.numbers.specs.Choice.{pick}
 use Rattle.numbers.proofs.Choice.{which, clash}
 use Rattle.rows.specs.Words.{mostFields}
 use Rattle.parents.specs.declared.Chains.the-variants.{AllEnd}
 use Rattle.parents.specs.Parents.{Inside, ancestor, meets, topLevel, reaches, endless}
 use Rattle.chain_moves.specs.Moves.{moves, totalMoves, allMoves, movesOf}
-use Rattle.chain_moves.specs.Distances.{TopAfter, sumBelow, SumOfMoves, Rooted, chainOf, AllMovesAsDefined, AllMovesCapped, ChainsReachCap}
+use Rattle.chain_moves.specs.Distances.{TopAfter, sumBelow, Rooted, chainOf, AllMovesAsDefined, AllMovesCapped, ChainsReachCap}
 use Rattle.parents.proofs.InsideLaws.{inside-front}
-use Rattle.parents.proofs.ChainLaws.{meets-here, meets-up, meets-le}
+use Rattle.parents.proofs.ChainLaws.{meets-here, meets-up}
 use Rattle.parents.proofs.EndlessLaws.{all-reach-iff, reach-each, reach-all}
 use Rattle.chain_moves.proofs.MovesLaws.{moves-top, moves-up, total-bound}
 

@@ -5,7 +5,7 @@ use mathlib.Core.Logic.{⊎-elim}
 use mathlib.Core.Bool.{Bool, true, false}
 use mathlib.Core.List.{List}
 use native.Mathlib.Omega.{arith}
-use lib.ListN.{length, getD, set, length-set, take, replicate}
+use lib.ListN.{length, set, length-set, take, replicate}
 use Rattle.numbers.specs.Choice.{pick}
 use Rattle.numbers.proofs.Choice.{clash}
 use Rattle.parents.specs.Parents.{Inside, reaches, endless}

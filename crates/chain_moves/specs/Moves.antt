@@ -1,12 +1,9 @@
 -- How many moves, from a field to its parent and so on, the self-parented field of each chain is away.
-use Prim.Native.Nat.{ℕ, zero, suc, _+_, _*_, _-_, _/_, _≤_, _<_}
-use mathlib.Core.List.{List, []}
-use mathlib.Core.Bool.{true, false}
-use mathlib.Core.Logic.{_↔_}
-use mathlib.Core.Path.{_≡_}
+use Prim.Native.Nat.{ℕ, zero, suc, _+_}
+use mathlib.Core.List.{List}
 use lib.ListN.{length, getD, take}
 use Rattle.numbers.specs.Choice.{pick}
-use Rattle.parents.specs.Parents.{inside, Inside, ancestor, topLevel, reaches, allReach, endless}
+use Rattle.parents.specs.Parents.{inside, topLevel, reaches, endless}
 use Rattle.parents.specs.declared.Chains.{Chains}
 use Rattle.parents.specs.declared.Chains.the-variants.{AllEnd, Endless}
 use Rattle.chain_moves.specs.declared.Distance.{Distance}

@@ -1,18 +1,13 @@
 -- Demand 3 for the call that counts moves.
 use Prim.Native.Nat.{ℕ}
-use mathlib.Core.List.{List, _++_}
-use mathlib.Core.Bool.{true}
-use mathlib.Core.Path.{_≡_, sym, ap, subst, _∙_}
-use lib.ListN.{length}
-use Rattle.wire.specs.Reading.{Step, found, refused}
-use Rattle.rows.specs.declared.ColumnRow.{ColumnRow}
+use mathlib.Core.List.{List}
+use mathlib.Core.Path.{_≡_, sym, ap, _∙_}
 use Rattle.chain_moves.specs.Moves.{allMoves}
 use Rattle.header.specs.Header.{Header}
 use Rattle.header.specs.Tables.{headerOf, parentsOf}
-use Rattle.moves.specs.Moves.{answer}
 use Rattle.moves.specs.declared.MovesAnswer.the-variants.{Moves}
 use Rattle.moves.proofs.Laws.{answer-found, answer-sum}
-use Rattle.tree.specs.HeaderTree.{FieldContent, HeaderContent, headerContent, parentsIn}
+use Rattle.tree.specs.HeaderTree.{HeaderContent, headerContent, parentsIn}
 use Rattle.tree.proofs.HeaderLaws.{parents-same}
 use Rattle.forward.specs.MovesForward.{MovesForward}
 use Rattle.forward.proofs.HeaderForward.{the-header, still-read}

@@ -1,15 +1,14 @@
 -- What the sum of the moves is, with no bound on them, how large it can be, and when there is none.
-use Prim.Native.Nat.{ℕ, _*_, _-_, _/_, _≤_}
+use Prim.Native.Nat.{ℕ, _*_, _-_, _≤_}
 use mathlib.Core.Path.{_≡_, refl, sym, ap, _∙_}
 use mathlib.Core.Bool.{Bool, true, false}
-use mathlib.Core.List.{List}
 use native.Mathlib.Nat.{mul-le-mul-left}
 use native.Mathlib.Omega.{arith}
 use lib.ListN.{length}
 use Rattle.numbers.specs.Choice.{pick}
 use Rattle.wire.specs.Reading.{Step, found, refused}
 use Rattle.chain_moves.specs.Moves.{allMoves}
-use Rattle.chain_moves.specs.Distances.{mostMoves, chainOf}
+use Rattle.chain_moves.specs.Distances.{mostMoves}
 use Rattle.chain_moves.proofs.Distances.{all-moves-as-defined, all-moves-capped, chains-reach-cap}
 use Rattle.header.specs.Header.{Header}
 use Rattle.header.specs.Tables.{headerOf, parentsOf, roomFor, tablesOf}
