@@ -15,6 +15,50 @@ pub enum Distance {
     Never,
 }
 
+// The sum of the moves from each of the first n fields, whose parents are these, to its self-parented field. 0 where a chain never ends, or
+// a parent is none of the n fields.
+pub fn total_moves(parents: &[u16], n: usize) -> usize
+    ensures { λ r. ⌜ r ≡ movesOf (now (parents .entry)) n ⌝ }
+{
+    if parents::inside::all_inside(parents, n) {
+        return sum_of_moves(parents, n);
+    }
+    0
+}
+
+// The same where every parent is one of the n fields. No field is followed twice.
+fn sum_of_moves(parents: &[u16], n: usize) -> usize
+    requires { ⌜ (n ≤ mostFields) × (n ≤ length (now parents)) ⌝ }
+    requires { ⌜ Inside (now parents) n ⌝ }
+    ensures { λ r. ⌜ r ≡ movesWhere (totalMoves (take n (now (parents .entry))) n n) (endless (take n (now (parents .entry))) n n) ⌝ }
+{
+    let mut marks = [0u16; rows::MOST_FIELDS];
+    let mut steps = [0u16; rows::MOST_FIELDS];
+    let mut depths = [0u16; rows::MOST_FIELDS];
+    let mut total = 0;
+    let mut f = 0;
+    while f < n {
+        match climb(
+            parents,
+            &mut marks,
+            &mut steps,
+            &depths,
+            n,
+            FieldNumber(f as u64),
+        ) {
+            Distance::Away(moves) => {
+                depths[f] = moves;
+                total += moves as usize;
+                f += 1;
+            }
+            Distance::Never => {
+                return 0;
+            }
+        }
+    }
+    total
+}
+
 // The moves along the chain from `start`. Each field that is followed is marked with start + 1, and has in `steps` its distance from the
 // start; where an earlier walk has been, `depths` has the moves from the start of that walk, and nothing is followed again.
 fn climb(
@@ -53,47 +97,4 @@ fn climb(
         count += 1;
         f = up;
     }
-}
-
-// The sum of the moves from each of n fields to its self-parented field, 0 where a chain never ends. No field is followed twice.
-fn sum_of_moves(parents: &[u16], n: usize) -> usize
-    requires { ⌜ (n ≤ mostFields) × (n ≤ length (now parents)) ⌝ }
-    requires { ⌜ Inside (now parents) n ⌝ }
-    ensures { λ r. ⌜ r ≡ movesWhere (totalMoves (take n (now (parents .entry))) n n) (endless (take n (now (parents .entry))) n n) ⌝ }
-{
-    let mut marks = [0u16; rows::MOST_FIELDS];
-    let mut steps = [0u16; rows::MOST_FIELDS];
-    let mut depths = [0u16; rows::MOST_FIELDS];
-    let mut total = 0;
-    let mut f = 0;
-    while f < n {
-        match climb(
-            parents,
-            &mut marks,
-            &mut steps,
-            &depths,
-            n,
-            FieldNumber(f as u64),
-        ) {
-            Distance::Away(moves) => {
-                depths[f] = moves;
-                total += moves as usize;
-                f += 1;
-            }
-            Distance::Never => {
-                return 0;
-            }
-        }
-    }
-    total
-}
-
-// The same for any parents: 0 too where a parent is none of the n fields.
-pub fn total_moves(parents: &[u16], n: usize) -> usize
-    ensures { λ r. ⌜ r ≡ movesOf (now (parents .entry)) n ⌝ }
-{
-    if parents::inside::all_inside(parents, n) {
-        return sum_of_moves(parents, n);
-    }
-    0
 }
