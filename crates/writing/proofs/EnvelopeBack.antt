@@ -7,7 +7,7 @@ use native.Mathlib.Omega.{arith}
 use lib.Dec.{leb, eqb}
 use borrow.Author.Tests.{leb-true, leb-false, le-leb, eq-eqb, lt-leb}
 use lib.ListN.{length, take, length-append}
-use Rattle.numbers.specs.Choice.{pick}
+use Rattle.numbers.proofs.Choice.{clash}
 use Rattle.numbers.specs.Numbers.{little}
 use Rattle.checksum.specs.Crc.{crc32}
 use Rattle.wire.specs.Reading.{Step, found, refused, Rule, fault, accepted, unless}
@@ -22,7 +22,7 @@ use Rattle.tree.proofs.Frames.{closed-complete}
 use Rattle.tree.proofs.Envelope.{Opened, opens, sealed-parts}
 use Rattle.writing.specs.Piece.{Piece, first, pieces, enveloped, testedFirst, testedLast}
 use Rattle.writing.specs.Promises.{Promised}
-use Rattle.writing.proofs.Sure.{Sure, first-none, unless-none, envelope-sure}
+use Rattle.writing.proofs.Sure.{Whole, Sure, first-none, unless-none, envelope-sure}
 use Rattle.writing.proofs.ReadBack.{At, Found, RefusedBy, Reads}
 
 -- there are no more rows than bytes, where each row has one
@@ -100,7 +100,7 @@ too-long supported r s big =
 
 -- an envelope is taken as its payload is
 pub record Takes {A : Type 0} (read : Step A) (x : Piece) (M : A → Type 0) : Type 0 where
-  pub sure : Sure x
+  pub sure : Whole x
   pub finds : x .number ≡ 0 → (q : ℕ) × Found read q M
   pub refuses : x .fits ≡ true → (x .number ≡ 0 → ⊥) → RefusedBy read (x .number)
 
@@ -180,13 +180,10 @@ tested-takes n t = record { sure = record { fits = t .sure .fits; long = t .sure
 pub unfit-takes : {A : Type 0} {read : Step A} {M : A → Type 0} (x : Piece) → x .fits ≡ false → (x .number ≡ 0 → ⊥) → Takes read x M
 unfit-takes x unfit bad =
     record {
-      sure = record { fits = λ e. absurd (bad e); long = λ e. never e };
+      sure = record { fits = λ e. absurd (bad e); long = λ e. clash e unfit };
       finds = λ e. absurd (bad e);
-      refuses = λ e. never e;
+      refuses = λ e. clash e unfit;
     }
-  where
-    never : {B : Type 0} → x .fits ≡ true → B
-    never e = let z : _≡_ {A = ℕ} 0 1 = ap (λ (b : Bool). pick b 1 0) (sym unfit ∙ e) in absurd (omega (arith, z))
 
 -- the promises
 pub promised : {A : Type 0} {read : Step A} {x : Piece} {M : A → Type 0} → Takes read x M → Promised x read M

@@ -11,6 +11,7 @@ use Rattle.frames.specs.Frames.{recordOf, atMost}
 use Rattle.envelope.specs.Features.{featureBits, features}
 use Rattle.envelope.specs.Envelope.{ceiling}
 use Rattle.records.specs.Records.{repetitive, repetition, fieldHead, fieldTexts, field, sized, column, aliasable, alias, texts}
+use Rattle.rows.specs.Words.{mostFields, mostColumns, mostAliases}
 use Rattle.rows.specs.declared.FieldHead.{FieldHead}
 use Rattle.rows.specs.declared.FieldTexts.{FieldTexts}
 use Rattle.rows.specs.declared.FieldRow.{FieldRow}
@@ -67,9 +68,9 @@ payload-sure strings named t =
     and-sure
     (and-sure (put-sure 8 64 featureBits 0) (and-sure (text-sure strings _) (and-sure (text-sure strings _) nothing-sure)))
     (and-sure
-    (and-sure (list-sure (atMost 512) _ (λ _ r. record-sure (field-sure strings (length (t .fields)) r)) (t .fields))
-    (and-sure (list-sure (atMost 1024) _ (λ _ c. record-sure (column-sure (length (t .fields)) c)) (t .columns))
-    (and-sure (list-sure (atMost 256) _ (λ _ a. record-sure (alias-sure (flagsOf (t .fields)) (length (t .columns)) a)) (t .aliases)) nothing-sure)))
+    (and-sure (list-sure (atMost mostFields) _ (λ _ r. record-sure (field-sure strings (length (t .fields)) r)) (t .fields))
+    (and-sure (list-sure (atMost mostColumns) _ (λ _ c. record-sure (column-sure (length (t .fields)) c)) (t .columns))
+    (and-sure (list-sure (atMost mostAliases) _ (λ _ a. record-sure (alias-sure (flagsOf (t .fields)) (length (t .columns)) a)) (t .aliases)) nothing-sure)))
     nothing-sure)
 
 -- there are few rows
@@ -84,7 +85,7 @@ means-map none = refl
 means-map {f = f} {g = g} (more {cs = cs} {xs = xs} {c = c} {x = x} m e) =
     map-append f xs (x ∷ []) ∙ ap (λ (l : List _). l ++ (f x ∷ [])) (means-map m) ∙ ap (λ y. map g cs ++ (y ∷ [])) e ∙ sym (map-append g cs (c ∷ []))
 
-map-self : {A : Type 0} (xs : List A) → map (λ x. x) xs ≡ xs
+pub map-self : {A : Type 0} (xs : List A) → map (λ x. x) xs ≡ xs
 map-self [] = refl
 map-self (x ∷ xs) = ap (λ (l : List _). x ∷ l) (map-self xs)
 
@@ -215,14 +216,14 @@ module _ (s : List ℕ) (strict : Bool) (small : length s < 2 ^ 31) (strings : L
   fields-read : Reads s (fieldList strict) (fieldListPiece strings (t .fields)) FieldsBack
   fields-read =
       meant-reads s (λ xs m. means-map m)
-      (list-reads s strict (atMost 512) (λ n _. recordOf strict (field n)) (λ _ r. recordPiece (fieldPiece strings (length (t .fields)) r)) (λ done c a. fieldContent s a ≡ fieldSays strings c) (t .fields) small (few .fields)
+      (list-reads s strict (atMost mostFields) (λ n _. recordOf strict (field n)) (λ _ r. recordPiece (fieldPiece strings (length (t .fields)) r)) (λ done c a. fieldContent s a ≡ fieldSays strings c) (t .fields) small (few .fields)
       (λ done before m c. record-reads strict small (field-reads s small strings (length (t .fields)) c)))
 
   columns-read : (xs : List FieldRow) → FieldsBack xs → Reads s (columnList strict (length xs)) (columnListPiece (length (t .fields)) (t .columns)) (λ cs. cs ≡ t .columns)
   columns-read xs same =
       rw (length-back s strings xs (t .fields) same)
       (meant-reads s (λ cs m. means-same m)
-      (list-reads s strict (atMost 1024) (λ _ _. recordOf strict (column (length (t .fields)))) (λ _ c. recordPiece (columnPiece (length (t .fields)) c)) (λ done c a. a ≡ c) (t .columns) small (few .columns)
+      (list-reads s strict (atMost mostColumns) (λ _ _. recordOf strict (column (length (t .fields)))) (λ _ c. recordPiece (columnPiece (length (t .fields)) c)) (λ done c a. a ≡ c) (t .columns) small (few .columns)
       (λ done before m c. record-reads strict small (column-reads s (length (t .fields)) c))))
 
   aliases-read : (xs : List FieldRow) → FieldsBack xs → (cs : List ColumnRow) → cs ≡ t .columns
@@ -230,7 +231,7 @@ module _ (s : List ℕ) (strict : Bool) (small : length s < 2 ^ 31) (strings : L
   aliases-read xs same cs same′ =
       rw (flags-back s strings xs (t .fields) same, same′)
       (meant-reads s (λ ys m. means-same m)
-      (list-reads s strict (atMost 256) (λ _ _. recordOf strict (alias (flagsOf (t .fields)) (length (t .columns)))) (λ _ a. recordPiece (aliasPiece (flagsOf (t .fields)) (length (t .columns)) a)) (λ done c a. a ≡ c) (t .aliases) small (few .aliases)
+      (list-reads s strict (atMost mostAliases) (λ _ _. recordOf strict (alias (flagsOf (t .fields)) (length (t .columns)))) (λ _ a. recordPiece (aliasPiece (flagsOf (t .fields)) (length (t .columns)) a)) (λ done c a. a ≡ c) (t .aliases) small (few .aliases)
       (λ done before m c. record-reads strict small (alias-reads s (flagsOf (t .fields)) (length (t .columns)) c))))
 
   abbrev ListsBack : Lists → Type 0
@@ -260,9 +261,9 @@ few-in : (strings : List ℕ) (named : HeaderTexts) (t : HeaderRows) → 8 + pay
 unfolding payloadPiece textsPiece listsPiece
 few-in strings named t small =
     record {
-      fields = few-rows (atMost 512) (λ _ r. fieldPiece strings (length (t .fields)) r) (t .fields) (omega arith);
-      columns = few-rows (atMost 1024) (λ _ c. columnPiece (length (t .fields)) c) (t .columns) (omega arith);
-      aliases = few-rows (atMost 256) (λ _ a. aliasPiece (flagsOf (t .fields)) (length (t .columns)) a) (t .aliases) (omega arith);
+      fields = few-rows (atMost mostFields) (λ _ r. fieldPiece strings (length (t .fields)) r) (t .fields) (omega arith);
+      columns = few-rows (atMost mostColumns) (λ _ c. columnPiece (length (t .fields)) c) (t .columns) (omega arith);
+      aliases = few-rows (atMost mostAliases) (λ _ a. aliasPiece (flagsOf (t .fields)) (length (t .columns)) a) (t .aliases) (omega arith);
     }
 
 -- the test of the parent chains is that of the rows

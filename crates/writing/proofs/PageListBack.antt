@@ -27,7 +27,7 @@ use Rattle.writing.specs.Piece.{Piece, first, listPiece, pieces, testedF
 use Rattle.writing.specs.declared.PageWords.{PageWords}
 use Rattle.writing.specs.PageList.{pageWordPiece, pagePiece, ofColumn, byColumn, inColumnOrder, pagesIn, pageListPayloadPiece, pageSays, pagesSay, countingAll, totalsNumber, pageListPiece}
 use Rattle.writing.specs.Promises.{Promised, PageListPromised, OutOfOrder}
-use Rattle.writing.proofs.Sure.{Sure, put-sure, nothing-sure, and-sure, list-sure, list-bytes-long, unless-none}
+use Rattle.writing.proofs.Sure.{Sure, alone-sure, put-sure, nothing-sure, and-sure, list-sure, list-bytes-long, unless-none}
 use Rattle.writing.proofs.ReadBack.{RefusedBy, Reads, number-reads, judged-reads, meant-reads, give-reads, next-reads}
 use Rattle.writing.proofs.FramesBack.{long-list-reads}
 use Rattle.writing.proofs.EnvelopeBack.{first-version, envelope-takes, last-takes, unfit-takes, promised}
@@ -44,7 +44,7 @@ narrow p = both (ltb (p .elements) (2 ^ 30)) (ltb (p .bit) 2)
 
 page-word-sure : (p : PageWords) → Sure (pageWordPiece p)
 unfolding pageWordPiece
-page-word-sure p = record { fits = λ e. unless-none (narrow p) 24 0 e .0; long = λ _. length-spelled 4 (word p) }
+page-word-sure p = alone-sure (spelled 4 (word p)) 4 (narrow p) 24 0 (λ _. length-spelled 4 (word p))
 
 page-sure : (file bits : ℕ) (p : PageWords) → Sure (pagePiece file bits p)
 unfolding pagePiece
@@ -197,7 +197,7 @@ ordered-sure : (file : ℕ) (bits : List ℕ) (n : ℕ) (rows : List PageWords) 
     → Sure (testedFirst true 14 (countingAll n (length rows) (pageListPayloadPiece file bits (byColumn 0 n rows))))
 ordered-sure file bits n rows order =
     let a = payload-sure file bits (byColumn 0 n rows) in
-    record { fits = a .fits; long = λ e. a .long e ∙ payload-long file bits n rows order }
+    record { fits = a .fits; long = λ e. a .long e ∙ payload-long file bits n rows order; order = a .order; outside = a .outside }
 
 ordered-reads : (s : List ℕ) → length s < 2 ^ 31 → (file : ℕ) (bits : List ℕ) (n : ℕ) (rows : List PageWords)
     → Reads s (payload file bits true) (testedFirst true 14 (countingAll n (length rows) (pageListPayloadPiece file bits (byColumn 0 n rows)))) (λ xss. xss ≡ pagesSay n rows)
