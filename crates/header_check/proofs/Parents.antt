@@ -28,24 +28,16 @@ use Rattle.header.specs.Tables.{parentsOf}
 use Rattle.header.proofs.BoundLaws.{map-below}
 use Rattle.header_scan.proofs.RowLaws.{rows-end, rows-endless}
 use Rattle.tree.specs.Shape.{NoVerdict}
+use Rattle.writing.proofs.Sure.{first-none, unless-none}
 use Rattle.writing.specs.Piece.{Piece, first, put, nothing, _&_, inOrder, pieces}
 use Rattle.writing.specs.Rows.{allRows, HeaderRows}
 use Rattle.writing.specs.Header.{repetitionPiece, fieldHeadPiece, fieldTextsPiece, fieldPiece, fieldItem, textsPiece, fieldListPiece, columnListPiece, aliasListPiece, listsPiece, payloadPiece, chains}
 use Rattle.header_check.specs.Parented.{Parented}
 use Rattle.header_check.proofs.Words.{count, parent-word}
 
--- where neither of two is refused, and where a test that is passed refuses nothing
-
-first-none : (a b : ℕ) → first a b ≡ 0 → (a ≡ 0) × (b ≡ 0)
-first-none zero b e = (refl, e)
-first-none (suc a) b e = absurd (omega (arith, e))
-
+-- where neither of two is refused
 none-of : (x y : Piece) → (x & y) .number ≡ 0 → (x .number ≡ 0) × (y .number ≡ 0)
 none-of x y e = first-none (x .number) (y .number) e
-
-unless-none : (good : Bool) (n rest : ℕ) → 0 < n → unless good n rest ≡ 0 → (good ≡ true) × (rest ≡ 0)
-unless-none true n rest some e = (refl, e)
-unless-none false n rest some e = absurd (omega (arith, some, e))
 
 -- fields of which nothing is refused have parents among them
 
@@ -56,8 +48,8 @@ parent-below n h e =
     let parent : Piece = put 4 32 (below n) p in
     let last : Piece = inOrder (put 2 16 (listed 4) (h .role) ∷ put 2 16 (listed 3) (h .flags) ∷ repetitionPiece (h .flags) (h .repetition) ∷ []) in
     let third = none-of (put 4 32 NoVerdict (h .«type_version»)) (parent & last) (none-of (put 4 32 NoVerdict (h .«field_version»)) (put 4 32 NoVerdict (h .«type_version») & (parent & last)) e .1) .1 in
-    let fits = unless-none (ltb p (2 ^ 32)) 25 (below n p) (omega arith) (none-of parent last third .0) .1 in
-    ltb-true p n (unless-none (ltb p n) 14 0 (omega arith) fits .0)
+    let fits = unless-none (ltb p (2 ^ 32)) 24 (below n p) (none-of parent last third .0) .1 in
+    ltb-true p n (unless-none (ltb p n) 13 0 fits .0)
 
 module _ (strings : List ℕ) where
   each-below : (n : ℕ) (done rows : List FieldRow) → pieces (fieldItem strings n) done rows .number ≡ 0 → Each (λ (r : FieldRow). r .head .parent .0 < n) rows
@@ -70,7 +62,7 @@ module _ (strings : List ℕ) where
   fields-parented : (rows : List FieldRow) → fieldListPiece strings rows .number ≡ 0 → Parented rows
   fields-parented rows e =
       let both = first-none (atMost mostFields (length rows)) (pieces (fieldItem strings (length rows)) [] rows .number) e in
-      let few = unless-none (leb (length rows) mostFields) 10 0 (omega arith) (both .0) .0 in
+      let few = unless-none (leb (length rows) mostFields) 9 0 (both .0) .0 in
       record {
         few = leb-true (length rows) mostFields few;
         inside = map-below (λ (r : FieldRow). r .head .parent .0) (length rows) rows (each-below (length rows) [] rows (both .1));
