@@ -94,25 +94,25 @@ module _ (table : List ℕ) (p : Parented (allRows fieldRow fieldWidth table)) w
     pub chain-endless : (f : FieldNumber) → chainsOf all (length table / fieldWidth) ≡ Endless f → 15 ≡ chains (allRows fieldRow fieldWidth table)
     chain-endless f e = rw (rows-endless (allRows fieldRow fieldWidth table) all (length table / fieldWidth) (count table) same few-rows inside f e)
 
--- a loop has stored the parents of i rows
-abbrev pub Stored : List ℕ → ℕ → List ℕ → Type 0
-Stored table i all = Holds (λ _ (r : FieldRow). r .head .parent .0 ∷ []) (firstRows fieldRow table i) (replicate mostFields 0) all
+-- a loop has filled in the parents of i rows
+abbrev pub Filled : List ℕ → ℕ → List ℕ → Type 0
+Filled table i all = Holds (λ _ (r : FieldRow). r .head .parent .0 ∷ []) (firstRows fieldRow table i) (replicate mostFields 0) all
 
-pub stored-none : (table : List ℕ) → Stored table 0 (replicate mostFields 0)
+pub filled-none : (table : List ℕ) → Filled table 0 (replicate mostFields 0)
 unfolding firstRows
-stored-none table = holds-none
+filled-none table = holds-none
 
-pub stored-long : (table : List ℕ) (i : ℕ) {all : List ℕ} → Stored table i all → length all ≡ mostFields
-stored-long table i m = m .long ∙ length-replicate {A = ℕ} mostFields 0
+pub filled-long : (table : List ℕ) (i : ℕ) {all : List ℕ} → Filled table i all → length all ≡ mostFields
+filled-long table i m = m .long ∙ length-replicate {A = ℕ} mostFields 0
 
-pub stored-more : (table : List ℕ) {i v : ℕ} {all : List ℕ} → Stored table i all → i < length all → v ≡ getD (rowWords fieldWidth table i) 2 0 → Stored table (i + 1) (set all i v)
+pub filled-more : (table : List ℕ) {i v : ℕ} {all : List ℕ} → Filled table i all → i < length all → v ≡ getD (rowWords fieldWidth table i) 2 0 → Filled table (i + 1) (set all i v)
 unfolding firstRows
-stored-more table {i} {v} {all} m inside e =
-    subst (λ (k : ℕ). Stored table k (set all i v)) (sym (add-one i))
+filled-more table {i} {v} {all} m inside e =
+    subst (λ (k : ℕ). Filled table k (set all i v)) (sym (add-one i))
     (holds-set (fieldRow table i) (λ _ _. refl) (ap (λ (u : ℕ). u ∷ []) (sym e)) m (rows-length fieldRow table i) inside)
 
-pub stored-all : (table : List ℕ) {n i : ℕ} {all : List ℕ} → Stored table i all → i ≡ n → take n all ≡ parentsOf (firstRows fieldRow table n)
-stored-all table {n} {i} {all} m e =
+pub filled-all : (table : List ℕ) {n i : ℕ} {all : List ℕ} → Filled table i all → i ≡ n → take n all ≡ parentsOf (firstRows fieldRow table n)
+filled-all table {n} {i} {all} m e =
     let parent : FieldRow → ℕ = λ r. r .head .parent .0 in
     let rows = firstRows fieldRow table i in
     let held : all ≡ over (parentsOf rows) (replicate mostFields 0) = m .rows ∙ ap (λ (w : List ℕ). over w (replicate mostFields 0)) (flat-one parent 0 rows) in

@@ -34,9 +34,9 @@ fn alias_number(row: AliasRow, fields: &[u64], columns: u64) -> u16
 {
     let column = row.column;
     let field = row.field;
-    let first = verdicts::narrow(column.0, BITS_32, tested::below(columns, column.0));
-    let second = verdicts::narrow(field.0, BITS_32, aliasable(fields, field.0));
-    verdicts::first(first, second)
+    let physical = verdicts::narrow(column.0, BITS_32, tested::below(columns, column.0));
+    let aliased = verdicts::narrow(field.0, BITS_32, aliasable(fields, field.0));
+    verdicts::first(physical, aliased)
 }
 
 // The first refusal of the records of all aliases.
