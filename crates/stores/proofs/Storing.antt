@@ -1,15 +1,12 @@
 -- Bytes stored one after the other.
-use Prim.Native.Nat.{ℕ, zero, suc, _+_, _/_, _%_, _-_, _^_, _≤_}
+use Prim.Native.Nat.{ℕ, zero, suc, _+_, _/_, _%_, _-_, _^_, _≤_, _<_}
 use mathlib.Core.List.{List, [], _∷_, _++_, append-assoc}
-use mathlib.Core.Bool.{Bool, false}
 use mathlib.Core.Path.{_≡_, refl, sym, ap, _∙_, subst}
 use native.Mathlib.Omega.{arith}
 use native.Mathlib.Nat.{add-zero}
 use native.Mathlib.Numerals.{add-one}
-use borrow.Author.Tests.{leb-false}
 use lib.ListN.{length, take, drop, set, length-append}
 use lib.Seq.{sets, length-sets, sets-eq, set-append-seam, length-take-le, paste, take-length}
-use Rattle.numbers.specs.Numbers.{Room}
 use Rattle.coding.specs.Strides.{puts}
 use Rattle.tree.specs.Bytes.{spelled}
 use Rattle.tree.specs.Shape.{recordBytes, listBytes}
@@ -48,10 +45,8 @@ puts-sets (suc k) x at d =
 pub stored-all : {old : List ℕ} {at : ℕ} {bytes new : List ℕ} {n : ℕ} → new ≡ sets old at bytes → n ≡ length bytes → Stored old at bytes new (at + n)
 stored-all {at = at} is long = record { onward = omega arith; done = λ _. (is, ap (λ (k : ℕ). at + k) long) }
 
-pub stored-nothing : {old : List ℕ} {at : ℕ} {bytes new : List ℕ} {n : ℕ} {room : Bool} → Room old at n room → room ≡ false → n ≡ length bytes → Stored old at bytes new at
-stored-nothing {old} {at} {n = n} r left long =
-    let short = leb-false (at + n) (length old) (sym (r .is) ∙ left) in
-    record { onward = omega arith; done = λ fits. absurd (omega arith) }
+pub stored-nothing : {old : List ℕ} {at : ℕ} {bytes new : List ℕ} → length old < at + length bytes → Stored old at bytes new at
+stored-nothing short = record { onward = omega arith; done = λ fits. absurd (omega arith) }
 
 -- bytes put over others of the same number
 over-seam : (p z q h : List ℕ) → length z ≡ length h → sets (p ++ (z ++ q)) (length p) h ≡ p ++ (h ++ q)

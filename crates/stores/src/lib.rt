@@ -9,15 +9,19 @@ ghost use Rattle.checksum.specs.Crc.{crc32};
 ghost use Rattle.tree.specs.Bytes.{spelled};
 ghost use Rattle.stores.specs.Stored.{Stored};
 
-// The k lowest bytes of a number, the least significant first. With k a literal the compiler makes one store of them.
+// The k lowest bytes of a number, the least significant first. With k a literal the compiler makes one store of them; the room is tested by
+// two comparisons of which the first does not hang on the place, so that a loop makes it once.
 fn store_number(k: usize, x: u64, at: usize, out: &mut [u8]) -> usize
     ensures { λ r. ⌜ Stored (now (out .entry)) at (spelled k x) (now (out .exit)) r ⌝ }
 {
-    if numbers::has_room(out, at, k) {
-        coding::put_number(k, x, at, out);
-        return at + k;
+    if out.len() < k {
+        return at;
     }
-    at
+    if out.len() - k < at {
+        return at;
+    }
+    coding::put_number(k, x, at, out);
+    at + k
 }
 
 pub fn store_2(x: u64, at: usize, out: &mut [u8]) -> usize

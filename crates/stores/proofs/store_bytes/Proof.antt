@@ -1,10 +1,11 @@
--- `stores::store_bytes` meets its contract. The invariant: so many bytes are copied.
+-- `stores::store_bytes` meets its contract. The invariant: so many bytes are copied. Assumes nothing.
 use Prim.Native.Nat.{_+_, _-_, _≤_, zero-le}
-use mathlib.Core.Path.{_≡_, refl, _∙_}
+use mathlib.Core.Path.{_≡_, refl, sym, _∙_}
 use native.Mathlib.Numerals.{add-one}
 use native.Mathlib.Omega.{arith}
 use lib.ListN.{length, length-set}
 use lib.Seq.{paste, paste-zero, paste-suc}
+use borrow.Author.Tests.{leb-false}
 use borrow.Author.Needs.{needs}
 use Rattle.stores.proofs.Storing.{pasted, stored-all, stored-nothing}
 use Rattle.stores.proofs.store_bytes.Statement.{statement}
@@ -53,7 +54,7 @@ same-length-2 : tie.Need-same-length-2 Inv-loop μ-loop
 same-length-2 c = search needs
 
 returns-2 : tie.Need-returns-2 Inv-loop μ-loop
-returns-2 c = stored-nothing (c .before .has-room .ensures) (c .if1 .left) refl
+returns-2 c = stored-nothing (leb-false _ _ (sym (c .before .has-room .ensures .is) ∙ c .if1 .left))
 
 pub store-bytes-spec : {M : Type 1} → statement M
 store-bytes-spec =

@@ -1,3 +1,4 @@
+-- `stores::store_list_head` meets its contract. Assumes nothing.
 use Prim.Native.Nat.{ℕ}
 use mathlib.Core.Path.{ap}
 use mathlib.Core.List.{_++_}
