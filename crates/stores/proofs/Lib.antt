@@ -1,2 +1,4 @@
 pub mod Storing
 pub mod Sealing
+pub mod Laid
+pub mod Answers

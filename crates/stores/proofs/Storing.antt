@@ -97,6 +97,11 @@ stored-as {a} {b} {at} {e} same s = subst (λ (l : List ℕ). Stored a at l b e)
 pub pasted : (old : List ℕ) (at : ℕ) (bytes : List ℕ) (n : ℕ) → n ≡ length bytes → at + length bytes ≤ length old → paste old at bytes n ≡ sets old at bytes
 pasted old at bytes n e room = ap (paste old at bytes) e ∙ ap (λ (l : List ℕ). take at old ++ l ++ drop (at + length bytes) old) (take-length bytes) ∙ sym (sets-eq bytes old at room)
 
+-- a record frame of a known size, which is stored first
+pub stored-sized : {a b c : List ℕ} {at m e : ℕ} (size : ℕ) (body : List ℕ) → 4 + length body ≡ size → Stored a at (spelled 4 size) b m → Stored b m body c e
+    → Stored a at (recordBytes body) c e
+stored-sized size body is one two = stored-as (ap (λ (k : ℕ). spelled 4 k ++ body) (sym is)) (stored-then one two)
+
 -- a record frame whose size is stored last
 pub stored-record : {a b c d : List ℕ} {at m e m′ : ℕ} (body : List ℕ) → Stored a at (spelled 4 0) b m → Stored b m body c e → Stored c at (spelled 4 (e - at)) d m′
     → Stored a at (recordBytes body) d e
