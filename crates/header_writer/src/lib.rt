@@ -1,0 +1,2 @@
+// Writes a header from its tables.
+mod write;
