@@ -4,3 +4,5 @@ pub mod Header
 pub mod Footer
 pub mod PageList
 pub mod Answers
+pub mod Promises
+pub mod UpTo
