@@ -1,4 +1,4 @@
--- `page_encoding::number::put_number` meets its contract. The invariant: the bytes that are left to store are those of the rest. Assumes nothing.
+-- `coding::put_number` meets its contract. The invariant: the bytes that are left to store are those of the rest. Assumes nothing.
 use mathlib.Core.Path.{_≡_, refl, sym, ap, ap₂, _∙_}
 use mathlib.Core.List.{List}
 use Prim.Native.Nat.{ℕ, suc, _+_, _-_, _/_, _%_, _<_, _≤_}
@@ -6,9 +6,9 @@ use native.Mathlib.Nat.{add-zero}
 use native.Mathlib.Omega.{arith}
 use lib.ListN.{length, set, length-set}
 use denote.Ref.{now}
 use Rattle.coding.specs.Strides.{puts}
-use Rattle.page_encoding.proofs.number.put_number.Statement.{statement}
-use Rattle.page_encoding.proofs.number.put_number.Tie as tie
+use Rattle.coding.proofs.put_number.Statement.{statement}
+use Rattle.coding.proofs.put_number.Tie as tie
 
 record Left (k x at : ℕ) (old out : List ℕ) (rest j : ℕ) : Type 0 where
   pub most : j ≤ k
