@@ -6,9 +6,11 @@ ghost use Rattle.header.specs.Tables.{headerOf};
 ghost use Rattle.footer.specs.Tables.{footerBeside};
 ghost use Rattle.page_list.specs.Tables.{pageListBeside};
 ghost use Rattle.pairing.specs.Paired.{pairedBeside};
+ghost use Rattle.writing.specs.Answers.{headerToWrite, footerToWrite, pageListToWrite};
 ghost use Rattle.page_rules.specs.Page.{decodeOutcome, decoded};
 ghost use Rattle.outcome.specs.Outcome.{codeOf};
 ghost use Rattle.envelope_calls.specs.Calls.{HeaderCall, MovesCall, FooterCall, PageListCall};
+ghost use Rattle.write_calls.specs.Calls.{WriteCall, textsAt};
 ghost use Rattle.page_calls.specs.Calls.{EncodeCall, asks};
 ghost use Rattle.exports.specs.Calls.{BytesCall, isUtf8};
 
@@ -98,6 +100,63 @@ pub extern "C" fn rnt_read_paired_page_list(
         pages,
         result,
     )
+}
+
+#[no_mangle]
+pub extern "C" fn rnt_write_header(
+    strings: &[u8],
+    name_place: u64,
+    name_length: u64,
+    description_place: u64,
+    description_length: u64,
+    fields: &[u64],
+    columns: &[u64],
+    aliases: &[u64],
+    out: &mut [u8],
+    result: &mut [u64],
+) -> u32
+    ensures { λ r. ⌜ WriteCall 1 (headerToWrite (now (strings .entry)) (textsAt «name_place» «name_length» «description_place» «description_length») (now (fields .entry)) (now (columns .entry)) (now (aliases .entry))) (now (out .entry)) (now (out .exit)) (now (result .entry)) (now (result .exit)) r ⌝ }
+{
+    write_calls::write_header(
+        strings,
+        name_place,
+        name_length,
+        description_place,
+        description_length,
+        fields,
+        columns,
+        aliases,
+        out,
+        result,
+    )
+}
+
+#[no_mangle]
+pub extern "C" fn rnt_write_footer(
+    header: &[u8],
+    file_length: u64,
+    clusters: &[u64],
+    metadata: &[u64],
+    out: &mut [u8],
+    result: &mut [u64],
+) -> u32
+    ensures { λ r. ⌜ WriteCall 2 (footerToWrite (now (header .entry)) «file_length» (now (clusters .entry)) (now (metadata .entry))) (now (out .entry)) (now (out .exit)) (now (result .entry)) (now (result .exit)) r ⌝ }
+{
+    write_calls::write_footer(header, file_length, clusters, metadata, out, result)
+}
+
+#[no_mangle]
+pub extern "C" fn rnt_write_page_list(
+    header: &[u8],
+    entries: u64,
+    file_length: u64,
+    pages: &[u64],
+    out: &mut [u8],
+    result: &mut [u64],
+) -> u32
+    ensures { λ r. ⌜ WriteCall 3 (pageListToWrite (now (header .entry)) entries «file_length» (now (pages .entry))) (now (out .entry)) (now (out .exit)) (now (result .entry)) (now (result .exit)) r ⌝ }
+{
+    write_calls::write_page_list(header, entries, file_length, pages, out, result)
 }
 
 #[no_mangle]
