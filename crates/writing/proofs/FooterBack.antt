@@ -48,7 +48,7 @@ cluster-sure carried file sum c =
 empty-sure : Sure emptyPiece
 empty-sure = list-sure noItems (λ _ _. nothing) (λ _ _. nothing-sure) []
 
-payload-sure : (carried : Bool) (checksum file : ℕ) (f : Footer) → Sure (footerPayloadPiece carried checksum file f)
+pub payload-sure : (carried : Bool) (checksum file : ℕ) (f : Footer) → Sure (footerPayloadPiece carried checksum file f)
 unfolding footerPayloadPiece
 payload-sure carried checksum file f =
     and-sure (put-sure 8 64 featureBits 0)

@@ -62,7 +62,7 @@ alias-sure : (flags : List ℕ) (columns : ℕ) (a : AliasRow) → Sure (aliasPi
 unfolding aliasPiece
 alias-sure flags columns a = and-sure (put-sure 4 32 (below columns) _) (and-sure (put-sure 4 32 (aliasable flags) _) nothing-sure)
 
-payload-sure : (strings : List ℕ) (named : HeaderTexts) (t : HeaderRows) → Sure (payloadPiece strings named t)
+pub payload-sure : (strings : List ℕ) (named : HeaderTexts) (t : HeaderRows) → Sure (payloadPiece strings named t)
 unfolding payloadPiece textsPiece listsPiece
 payload-sure strings named t =
     and-sure

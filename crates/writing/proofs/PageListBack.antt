@@ -50,7 +50,7 @@ page-sure : (file bits : ℕ) (p : PageWords) → Sure (pagePiece file bits p)
 unfolding pagePiece
 page-sure file bits p = and-sure (page-word-sure p) (and-sure (put-sure 4 31 (storedAs _) _) (and-sure (put-sure 8 64 (inFile file _ _) _) nothing-sure))
 
-payload-sure : (file : ℕ) (bits : List ℕ) (pss : List (List PageWords)) → Sure (pageListPayloadPiece file bits pss)
+pub payload-sure : (file : ℕ) (bits : List ℕ) (pss : List (List PageWords)) → Sure (pageListPayloadPiece file bits pss)
 unfolding pageListPayloadPiece
 payload-sure file bits pss =
     list-sure (perColumn (length bits)) _ (λ before ps. list-sure (runningTotal (pagesIn before)) _ (λ _ p. page-sure file (getD bits (length before) 0) p) ps) pss
@@ -193,7 +193,7 @@ payload-long file bits n rows order =
 
 -- the payload of rows in order, with the length that counts all rows
 
-ordered-sure : (file : ℕ) (bits : List ℕ) (n : ℕ) (rows : List PageWords) → inColumnOrder n 0 rows ≡ true
+pub ordered-sure : (file : ℕ) (bits : List ℕ) (n : ℕ) (rows : List PageWords) → inColumnOrder n 0 rows ≡ true
     → Sure (testedFirst true 14 (countingAll n (length rows) (pageListPayloadPiece file bits (byColumn 0 n rows))))
 ordered-sure file bits n rows order =
     let a = payload-sure file bits (byColumn 0 n rows) in

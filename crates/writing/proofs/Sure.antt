@@ -75,7 +75,7 @@ text-sure strings t =
 pub nothing-sure : Sure nothing
 nothing-sure = record { fits = λ _. refl; long = λ _. refl; order = refl; outside = tt }
 
-first-of-join : (ps qs : List Place) → firstOf (ps ++ qs) ≡ first (firstOf ps) (firstOf qs)
+pub first-of-join : (ps qs : List Place) → firstOf (ps ++ qs) ≡ first (firstOf ps) (firstOf qs)
 first-of-join [] qs = refl
 first-of-join (p ∷ ps) qs = ap (first (p .number)) (first-of-join ps qs) ∙ sym (first-assoc (p .number) (firstOf ps) (firstOf qs))
 
