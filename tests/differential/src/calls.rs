@@ -494,25 +494,34 @@ pub fn read_paired_page_list(
     }
 }
 
-/// The texts are place and length of the name, then of the description.
-pub fn write_header(
-    strings: &[u8],
-    texts: [u64; 4],
-    fields: &[u64],
-    columns: &[u64],
-    aliases: &[u64],
-    out: &mut [u8],
-    result: &mut [u64],
-) -> u32 {
+/// What is lent to the writer of a header, besides the bytes that it writes.
+#[derive(Clone, Copy)]
+pub struct HeaderTables<'a> {
+    pub strings: &'a [u8],
+    /// Place and length of the name, then of the description.
+    pub texts: [u64; 4],
+    pub fields: &'a [u64],
+    pub columns: &'a [u64],
+    pub aliases: &'a [u64],
+}
+
+pub fn write_header(tables: HeaderTables, out: &mut [u8], result: &mut [u64]) -> u32 {
+    let HeaderTables {
+        strings,
+        texts: [name_place, name_length, description_place, description_length],
+        fields,
+        columns,
+        aliases,
+    } = tables;
     // SAFETY: as above.
     unsafe {
         exported::rnt_write_header(
             strings.as_ptr(),
             strings.len(),
-            texts[0],
-            texts[1],
-            texts[2],
-            texts[3],
+            name_place,
+            name_length,
+            description_place,
+            description_length,
             fields.as_ptr(),
             fields.len(),
             columns.as_ptr(),
@@ -527,14 +536,22 @@ pub fn write_header(
     }
 }
 
-pub fn write_footer(
-    header: &[u8],
-    file_length: u64,
-    clusters: &[u64],
-    metadata: &[u64],
-    out: &mut [u8],
-    result: &mut [u64],
-) -> u32 {
+/// What is lent to the writer of a footer.
+#[derive(Clone, Copy)]
+pub struct FooterTables<'a> {
+    pub header: &'a [u8],
+    pub file_length: u64,
+    pub clusters: &'a [u64],
+    pub metadata: &'a [u64],
+}
+
+pub fn write_footer(tables: FooterTables, out: &mut [u8], result: &mut [u64]) -> u32 {
+    let FooterTables {
+        header,
+        file_length,
+        clusters,
+        metadata,
+    } = tables;
     // SAFETY: as above.
     unsafe {
         exported::rnt_write_footer(
@@ -553,14 +570,22 @@ pub fn write_footer(
     }
 }
 
-pub fn write_page_list(
-    header: &[u8],
-    entries: u64,
-    file_length: u64,
-    pages: &[u64],
-    out: &mut [u8],
-    result: &mut [u64],
-) -> u32 {
+/// What is lent to the writer of a page list.
+#[derive(Clone, Copy)]
+pub struct PageListTable<'a> {
+    pub header: &'a [u8],
+    pub entries: u64,
+    pub file_length: u64,
+    pub pages: &'a [u64],
+}
+
+pub fn write_page_list(table: PageListTable, out: &mut [u8], result: &mut [u64]) -> u32 {
+    let PageListTable {
+        header,
+        entries,
+        file_length,
+        pages,
+    } = table;
     // SAFETY: as above.
     unsafe {
         exported::rnt_write_page_list(

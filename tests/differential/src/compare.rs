@@ -3,7 +3,7 @@
 
 mod writing;
 
-use crate::calls;
+use crate::calls::{self, FooterTables, HeaderTables, PageListTable};
 use crate::generate::envelopes::{FooterCase, HeaderCase, PageListCase};
 use crate::generate::moves::{MovesCase, MOST_MOVES};
 use crate::generate::pages::{CrcCase, DecodeCase, EncodeCase};
@@ -217,17 +217,10 @@ fn exported<const N: usize>(result: &mut [u64], call: impl FnOnce() -> (u32, [u6
 /// A call that counts moves: a header and the lent result.
 pub type MovesCall = fn(&[u8], &mut [u64]) -> u32;
 
-/// A call that writes a header: strings, texts, three tables, the lent bytes
-/// and the lent result.
-pub type WriteHeaderCall = fn(&[u8], [u64; 4], &[u64], &[u64], &[u64], &mut [u8], &mut [u64]) -> u32;
-
-/// A call that writes a footer: header, file length, two tables, the lent bytes
-/// and the lent result.
-pub type WriteFooterCall = fn(&[u8], u64, &[u64], &[u64], &mut [u8], &mut [u64]) -> u32;
-
-/// A call that writes a page list: header, entries, file length, a table, the
-/// lent bytes and the lent result.
-pub type WritePageListCall = fn(&[u8], u64, u64, &[u64], &mut [u8], &mut [u64]) -> u32;
+/// Calls that write: what they are lent, the bytes and the result.
+pub type WriteHeaderCall = Box<dyn Fn(HeaderTables, &mut [u8], &mut [u64]) -> u32>;
+pub type WriteFooterCall = Box<dyn Fn(FooterTables, &mut [u8], &mut [u64]) -> u32>;
+pub type WritePageListCall = Box<dyn Fn(PageListTable, &mut [u8], &mut [u64]) -> u32>;
 
 pub struct Comparer {
     pub generator: Generator,
@@ -251,9 +244,9 @@ impl Comparer {
             generator: Generator::new(),
             tally: Tally::new(),
             parent_moves: calls::parent_moves,
-            write_header: calls::write_header,
-            write_footer: calls::write_footer,
-            write_page_list: calls::write_page_list,
+            write_header: Box::new(calls::write_header),
+            write_footer: Box::new(calls::write_footer),
+            write_page_list: Box::new(calls::write_page_list),
             tables: [Lent::new(), Lent::new(), Lent::new()],
             result: Lent::new(),
             bytes: Lent::new(),

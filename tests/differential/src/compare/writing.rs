@@ -2,15 +2,15 @@
 //! reader says of the same bytes.
 
 use super::{dump, exported, name, Comparer, Note};
-use crate::calls;
+use crate::calls::{self, FooterTables, HeaderTables, PageListTable};
 use crate::generate::writing::footers::WriteFooterCase;
 use crate::generate::writing::headers::WriteHeaderCase;
 use crate::generate::writing::page_lists::WritePageListCase;
-use crate::reference;
 use crate::reference::envelope::ENVELOPE_CEILING;
 use crate::reference::footer::{CLUSTER_WORDS, LINK_WORDS, NO_CHECKSUM};
 use crate::reference::header::{self, ALIAS_WORDS, COLUMN_WORDS, FIELD_WORDS};
 use crate::reference::page_list::PAGE_WORDS;
+use crate::reference::{self, HEADER};
 use crate::writer::{stored_checksum, Alias, Cluster, Column, Field, Footer, Header, Link, List, Page, PageList};
 
 /// A room that is too small is no refusal of a reader that has enough.
@@ -205,7 +205,14 @@ impl Comparer {
             reference::write_header(strings, *texts, fields, columns, aliases, out.reference())
         });
         let lent = self.shelves[0].lend(strings, seed);
-        let ours = (self.write_header)(lent, *texts, fields, columns, aliases, out.ours(), self.result.ours());
+        let tables = HeaderTables {
+            strings: lent,
+            texts: *texts,
+            fields,
+            columns,
+            aliases,
+        };
+        let ours = (self.write_header)(tables, out.ours(), self.result.ours());
         self.settle_bytes(ours, theirs)?;
         if ours == calls::RESULT_TOO_SHORT || case.tables().length() > 2 * ENVELOPE_CEILING as u128 {
             return Ok(());
@@ -270,9 +277,15 @@ impl Comparer {
             reference::write_footer(header, *file_length, clusters, metadata, out.reference())
         });
         let lent = self.shelves[0].lend(header, seed);
-        let ours = (self.write_footer)(lent, *file_length, clusters, metadata, out.ours(), self.result.ours());
+        let tables = FooterTables {
+            header: lent,
+            file_length: *file_length,
+            clusters,
+            metadata,
+        };
+        let ours = (self.write_footer)(tables, out.ours(), self.result.ours());
         self.settle_bytes(ours, theirs)?;
-        if ours == calls::RESULT_TOO_SHORT {
+        if ours == calls::RESULT_TOO_SHORT || ours / 256 == HEADER {
             return Ok(());
         }
         let mut tables = [clusters, metadata].map(|table| vec![0; table.len()]);
@@ -318,9 +331,15 @@ impl Comparer {
             reference::write_page_list(header, *entries, *file_length, pages, out.reference())
         });
         let lent = self.shelves[0].lend(header, seed);
-        let ours = (self.write_page_list)(lent, *entries, *file_length, pages, out.ours(), self.result.ours());
+        let table = PageListTable {
+            header: lent,
+            entries: *entries,
+            file_length: *file_length,
+            pages,
+        };
+        let ours = (self.write_page_list)(table, out.ours(), self.result.ours());
         self.settle_bytes(ours, theirs)?;
-        if ours == calls::RESULT_TOO_SHORT {
+        if ours == calls::RESULT_TOO_SHORT || ours / 256 == HEADER {
             return Ok(());
         }
         let mut table = vec![0; pages.len()];

@@ -6,6 +6,9 @@ pub mod footer;
 pub mod header;
 pub mod page_list;
 
+#[cfg(test)]
+mod lines;
+
 use super::crc::crc32;
 use super::envelope::{is_string, ENVELOPE_CEILING};
 use super::Number;
