@@ -1,6 +1,6 @@
 //! Wrong writers of footers.
 
-use super::{assert_found, cut, filled_up, first_for_all, found, largest, rewritten, ANY, CEILING, TOO_SHORT};
+use super::{assert_found, cut, filled_up, first_for_all, found, largest, rewritten, Narrow, ANY, CEILING, TOO_SHORT};
 use differential::calls::FooterTables;
 use differential::compare::Comparer;
 use differential::generate::Kind;
@@ -101,8 +101,10 @@ fn first_entries(own: &mut Own) {
     });
 }
 
+type Alter = fn(&mut Own);
+
 /// Writers of other tables than those that they are lent.
-const ALTERED: &[(&str, fn(&mut Own))] = &[
+const ALTERED: &[(&str, Alter)] = &[
     ("the first cluster for all", |own| first_for_all(&mut own.clusters, 5)),
     ("the first cluster for all, entries counted on", |own| {
         first_for_all(&mut own.clusters, 5);
@@ -592,12 +594,15 @@ fn each_is_found() {
     assert_found(missed);
 }
 
+/// Changes the numbers of one place.
+type Place = fn(&mut Own, Narrow);
+
 /// As for headers: cut to the place, or judged as its largest number.
 #[test]
 fn each_place_is_found() {
     let mut missed = Vec::new();
-    for (way, narrow) in [("cut", cut as fn(u64, u32) -> u64), ("judged first", largest)] {
-        let places: [(&str, fn(&mut Own, fn(u64, u32) -> u64)); 5] = [
+    for (way, narrow) in [("cut", cut as Narrow), ("judged first", largest)] {
+        let places: [(&str, Place); 5] = [
             ("entries", |own, narrow| {
                 own.each_cluster(|row| row[1] = narrow(row[1], 60))
             }),

@@ -1,6 +1,6 @@
 //! Wrong writers of headers.
 
-use super::{assert_found, cut, filled_up, first_for_all, found, largest, ANY, CEILING, TOO_SHORT};
+use super::{assert_found, cut, filled_up, first_for_all, found, largest, Narrow, ANY, CEILING, TOO_SHORT};
 use differential::calls::HeaderTables;
 use differential::compare::Comparer;
 use differential::generate::Kind;
@@ -90,8 +90,10 @@ fn outside(end: u64, text: &[u64]) -> bool {
     u128::from(text[0]) + u128::from(text[1]) > end.into()
 }
 
+type Alter = fn(&mut Own);
+
 /// Writers of other tables than those that they are lent.
-const ALTERED: &[(&str, fn(&mut Own))] = &[
+const ALTERED: &[(&str, Alter)] = &[
     ("the first field for all", |own| first_for_all(&mut own.fields, 15)),
     ("the first column for all", |own| first_for_all(&mut own.columns, 4)),
     ("the first alias for all", |own| first_for_all(&mut own.aliases, 2)),
@@ -302,7 +304,7 @@ const REFUSING: &[(&str, Refusing)] = &[
     }),
     ("too little room before the last alias", |own, number, out| {
         let aliases = (own.aliases.len() / 2).saturating_sub(1);
-        if own.length() > out as u128 && number != 15 && of_first(own, [512, 1_024, aliases]) % 15 == 0 {
+        if own.length() > out as u128 && number != 15 && matches!(of_first(own, [512, 1_024, aliases]), 0 | 15) {
             20
         } else {
             number
@@ -385,13 +387,13 @@ const REFUSING: &[(&str, Refusing)] = &[
     }),
     ("a count after the columns", |own, number, _| {
         match of_first(own, [512, 1_024, 0]) {
-            first if number == 10 && own.columns.len() >= 1_025 * 4 && first % 15 != 0 => first,
+            first if number == 10 && own.columns.len() >= 1_025 * 4 && !matches!(first, 0 | 15) => first,
             _ => number,
         }
     }),
     ("a count after the aliases", |own, number, _| {
         match of_first(own, [512, 1_024, 256]) {
-            first if number == 10 && own.aliases.len() >= 257 * 2 && first % 15 != 0 => first,
+            first if number == 10 && own.aliases.len() >= 257 * 2 && !matches!(first, 0 | 15) => first,
             _ => number,
         }
     }),
@@ -617,7 +619,7 @@ fn each_place_is_found() {
     let mut missed = Vec::new();
     for (table, widths) in [FIELD_BITS, COLUMN_BITS, ALIAS_BITS].into_iter().enumerate() {
         for (word, &bits) in widths.iter().enumerate() {
-            for (way, narrow) in [("cut", cut as fn(u64, u32) -> u64), ("judged first", largest)] {
+            for (way, narrow) in [("cut", cut as Narrow), ("judged first", largest)] {
                 let call = move |tables: HeaderTables, out: &mut [u8], result: &mut [u64]| {
                     altered(tables, out, result, |own| {
                         let (table, words) = match table {

@@ -15,8 +15,9 @@ const TOO_SHORT: u32 = u32::MAX;
 /// The most bytes of an envelope.
 const CEILING: u128 = 1_048_576;
 
-/// So many cases at most.
+/// So many cases at most; the large ones are among the first.
 const CASES: u64 = 20_000;
+const LARGE: u64 = 50;
 
 /// A call without what it is lent: the bytes and the result.
 type Write<'a> = &'a dyn Fn(&mut [u8], &mut [u64]) -> u32;
@@ -257,15 +258,21 @@ const ANY: &[(&str, Wrong)] = &[
     }),
 ];
 
-/// The first case of a kind in which a comparer finds a difference.
+/// The first case of a kind in which a comparer finds a difference, of the
+/// small ones where there is one.
 fn found(mut comparer: Comparer, kind: Kind) -> Option<u64> {
-    (0..CASES).find(|&case| comparer.run(1, kind, case).is_err())
+    (LARGE..CASES)
+        .chain(0..LARGE)
+        .find(|&case| comparer.run(1, kind, case).is_err())
 }
 
 /// The names of those that are not found.
 fn assert_found(missed: Vec<String>) {
     assert!(missed.is_empty(), "not found: {missed:?}");
 }
+
+/// What becomes of a number that is too wide for so many bits.
+type Narrow = fn(u64, u32) -> u64;
 
 /// A number that is cut to so many bits.
 fn cut(number: u64, bits: u32) -> u64 {

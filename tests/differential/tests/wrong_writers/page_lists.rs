@@ -1,6 +1,6 @@
 //! Wrong writers of page lists.
 
-use super::{assert_found, cut, filled_up, first_for_all, found, largest, ANY, CEILING, TOO_SHORT};
+use super::{assert_found, cut, filled_up, first_for_all, found, largest, Narrow, ANY, CEILING, TOO_SHORT};
 use differential::calls::PageListTable;
 use differential::compare::Comparer;
 use differential::generate::Kind;
@@ -106,8 +106,10 @@ fn number_of(own: &Own, alter: impl FnOnce(&mut Own)) -> u32 {
     roomy(&own) % 256
 }
 
+type Alter = fn(&mut Own);
+
 /// Writers of other tables than those that they are lent.
-const ALTERED: &[(&str, fn(&mut Own))] = &[
+const ALTERED: &[(&str, Alter)] = &[
     ("the first page for all", |own| first_for_all(&mut own.pages, 5)),
     ("the first page's numbers for all", |own| {
         let first = own.rows().next().map(<[u64]>::to_vec);
@@ -266,7 +268,7 @@ const REFUSING: &[(&str, Refusing)] = &[
         });
         let good = good.count();
         match number_of(own, |own| own.pages.truncate(good * 5)) {
-            first if number == 14 && first % 19 != 0 => first,
+            first if number == 14 && !matches!(first, 0 | 19) => first,
             _ => number,
         }
     }),
@@ -330,7 +332,7 @@ const REFUSING: &[(&str, Refusing)] = &[
     (
         "the count after the pages before it",
         |own, number, _| match number_of(own, |own| own.pages.truncate(PAGES * 5)) {
-            first if number == 10 && first % 19 != 0 => first,
+            first if number == 10 && !matches!(first, 0 | 19) => first,
             _ => number,
         },
     ),
@@ -596,7 +598,7 @@ fn each_is_found() {
 #[test]
 fn each_place_is_found() {
     let mut missed = Vec::new();
-    for (way, narrow) in [("cut", cut as fn(u64, u32) -> u64), ("judged first", largest)] {
+    for (way, narrow) in [("cut", cut as Narrow), ("judged first", largest)] {
         for (word, bits) in [(1, 30), (2, 1), (3, 31)] {
             let call = move |table: PageListTable, out: &mut [u8], result: &mut [u64]| {
                 altered(table, out, result, |own| {

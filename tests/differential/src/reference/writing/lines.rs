@@ -84,20 +84,14 @@ fn smallest() {
     assert_eq!(footer, include_bytes!("../../../../../examples/smallest.footer"));
     let list = written(16, |out| write_page_list(&header, 0, 0, &[], out)).expect("a page list");
     assert_eq!(list, include_bytes!("../../../../../examples/smallest.pagelist"));
-    for short in [0, 1, 15] {
-        let refused = |room, write: &dyn Fn(&mut [u8]) -> (u32, [u64; 1])| written(room, write);
-        assert_eq!(
-            refused(short + 32, &|out| write_header(&[], [0; 4], &[], &[], &[], out)),
-            Err(256 + 20)
-        );
-        assert_eq!(
-            refused(short + 36, &|out| write_footer(&header, 0, &[], &[], out)),
-            Err(512 + 20)
-        );
-        assert_eq!(
-            refused(short, &|out| write_page_list(&header, 0, 0, &[], out)),
-            Err(768 + 20)
-        );
+    for room in [0, 1, 15, 35, 47, 51] {
+        let refused = |answer: Result<Vec<u8>, u32>| answer.err().map(|answer| (answer / 256, answer % 256));
+        let header_refused = refused(written(room, |out| write_header(&[], [0; 4], &[], &[], &[], out)));
+        let footer_refused = refused(written(room, |out| write_footer(&header, 0, &[], &[], out)));
+        let list_refused = refused(written(room, |out| write_page_list(&header, 0, 0, &[], out)));
+        assert_eq!(header_refused, (room < 48).then_some((HEADER, 20)));
+        assert_eq!(footer_refused, Some((FOOTER, 20)));
+        assert_eq!(list_refused, (room < 16).then_some((PAGE_LIST, 20)));
     }
 }
 
