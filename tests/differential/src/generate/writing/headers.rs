@@ -311,12 +311,24 @@ fn largest(random: &mut Random, place: u64) -> Option<WriteHeaderCase> {
             let at = row + random.index(count);
             words[at] = other(random, words[at]);
         }
+        // More strings than an envelope has, all of them used from the end.
+        22 => {
+            let before = ENVELOPE_CEILING + random.index(1_000);
+            let mut strings = random.bytes(before);
+            strings.append(&mut case.strings);
+            case.strings = strings;
+            let rows = case.fields.chunks_exact_mut(FIELD_WORDS);
+            let texts = rows.flat_map(|row| row[6..14].chunks_exact_mut(2));
+            texts
+                .chain(case.texts.chunks_exact_mut(2))
+                .for_each(|text| text[0] += before as u64);
+        }
         _ => return None,
     }
     Some(case)
 }
 
-const LARGEST: u64 = 22;
+const LARGEST: u64 = 23;
 
 /// Something wrong, at one place.
 fn damage(random: &mut Random, case: &mut WriteHeaderCase) {
