@@ -725,6 +725,53 @@ fn a_written_page_list_has_the_rows() {
     assert_eq!(reason(3, 1_000, long), Reason::EnvelopeTooLong);
 }
 
+/// Header, page list and footer from rows alone; the footer's row says which page list it means.
+#[test]
+fn an_archive_is_written() {
+    let column = Column {
+        column_type: 0x14,
+        bits: 32,
+        field: FieldNumber(0),
+        flags: 0,
+    };
+    let header = new_header("run", "", &[top(0, "energy")], &[column], &[]).unwrap();
+    let page = |elements: usize, offset| Page {
+        column: ColumnNumber(0),
+        elements,
+        checksum: true,
+        size: 4 * elements as u64,
+        offset,
+    };
+    let file_length = 1_000;
+    let list = |offset| new_page_list(&header, 5, file_length, &[page(3, 0), page(2, offset)]).unwrap();
+    let (own, stale) = (list(16), list(17));
+    let cluster = Cluster {
+        first_entry: 0,
+        entries: 5,
+        page_list: Link {
+            size: own.len() as u64,
+            offset: 500,
+        },
+        checksum: Some(crc32(&own[..own.len() - 4])),
+    };
+    let footer = new_footer(&header, file_length, &[cluster], &[]).unwrap();
+    let mut room = FooterRoom::full();
+    let row = room
+        .read(&header, &footer, file_length)
+        .unwrap()
+        .clusters
+        .get(0)
+        .unwrap();
+    assert_eq!(row, cluster);
+    let mut room = PageListRoom::full();
+    assert_eq!(
+        room.read_paired(&header, &own, &row, file_length).unwrap().pages.len(),
+        2
+    );
+    let refusal = room.read_paired(&header, &stale, &row, file_length).unwrap_err();
+    assert_eq!(refusal.reason, Reason::OtherPageList);
+}
+
 #[test]
 fn writing_without_room_changes_nothing() {
     let header = refused(Envelope::Header, Reason::ChecksumDiffers);
