@@ -24,7 +24,7 @@ type Write<'a> = &'a dyn Fn(&mut [u8], &mut [u64]) -> u32;
 
 /// A call of which something is wrong with the bytes or the result, whatever it
 /// writes.
-type Wrong = fn(Write, &mut [u8], &mut [u64]) -> u32;
+type Anyway = fn(Write, &mut [u8], &mut [u64]) -> u32;
 
 /// The number of a refusal that is no acceptance, and no result that is too short.
 fn number(answer: u32) -> Option<u32> {
@@ -58,7 +58,7 @@ fn needed(write: Write) -> Option<usize> {
 }
 
 /// What every writer may do wrong.
-const ANY: &[(&str, Wrong)] = &[
+const ANY: &[(&str, Anyway)] = &[
     ("nothing is written", |write, out, result| {
         write(&mut out.to_vec(), result)
     }),
@@ -258,17 +258,173 @@ const ANY: &[(&str, Wrong)] = &[
     }),
 ];
 
-/// The first case of a kind in which a comparer finds a difference, of the
-/// small ones where there is one.
-fn found(mut comparer: Comparer, kind: Kind) -> Option<u64> {
-    (LARGE..CASES)
-        .chain(0..LARGE)
-        .find(|&case| comparer.run(1, kind, case).is_err())
+/// What a writer is lent, in a copy that may be altered.
+trait Lent: Sized + 'static {
+    /// The envelope of its own refusals.
+    const ENVELOPE: u32;
+    const KIND: Kind;
+
+    /// The reference's call, which is right.
+    fn write(&self, out: &mut [u8], result: &mut [u64]) -> u32;
+
+    /// Puts a call in the place of the library's.
+    fn replace(comparer: &mut Comparer, call: impl Fn(Self, &mut [u8], &mut [u64]) -> u32 + 'static);
+
+    /// What is answered with room enough.
+    fn roomy(&self) -> u32 {
+        self.write(&mut vec![0; CEILING as usize], &mut [0])
+    }
 }
 
-/// The names of those that are not found.
-fn assert_found(missed: Vec<String>) {
+/// What is written is other tables than those that are lent.
+type Alter<T> = fn(&mut T);
+
+/// What is written has other numbers in one place, those that are too wide.
+type Place<T> = fn(&mut T, Narrow);
+
+/// Whether another number comes in place of the reference's (0 where there is
+/// none, room aside), with so many lent bytes. The header is accepted.
+type Where<T> = fn(&T, u32, usize) -> bool;
+
+/// The number that comes in place of the reference's.
+type Instead<T> = fn(&T, u32) -> u32;
+
+/// Anything else.
+type Call<T> = fn(T, &mut [u8], &mut [u64]) -> u32;
+
+/// The wrong writers of an envelope.
+struct Wrong<T: 'static> {
+    altered: &'static [(&'static str, Alter<T>)],
+    places: &'static [(&'static str, Place<T>)],
+    refused: &'static [(&'static str, u32, Where<T>)],
+    instead: &'static [(&'static str, Instead<T>)],
+    others: &'static [(&'static str, Call<T>)],
+}
+
+/// The reference's answer as an exported call gives it.
+fn exported(result: &mut [u64], call: impl FnOnce() -> (u32, [u64; 1])) -> u32 {
+    let Some(first) = result.first_mut() else {
+        return TOO_SHORT;
+    };
+    let (answer, [written]) = call();
+    *first = written;
+    answer
+}
+
+/// The reference's call with another number, from what is lent, its own number
+/// and the lent bytes.
+fn numbered<T: Lent>(lent: &T, out: &mut [u8], result: &mut [u64], number: impl Fn(&T, u32, usize) -> u32) -> u32 {
+    let answer = lent.roomy();
+    let own = answer % 256;
+    let of_header = answer != 0 && answer / 256 != T::ENVELOPE;
+    if result.is_empty() || of_header {
+        return lent.write(out, result);
+    }
+    let other = number(lent, own, out.len());
+    if other == own {
+        return lent.write(out, result);
+    }
+    // Where there is none, the call accepts, and nothing is written.
+    result[0] = 0;
+    if other == 0 {
+        0
+    } else {
+        T::ENVELOPE * 256 + other
+    }
+}
+
+/// Whether some case shows that a call is wrong, a small one where there is one.
+fn found<T: Lent>(call: impl Fn(T, &mut [u8], &mut [u64]) -> u32 + 'static) -> bool {
+    let mut comparer = Comparer::new();
+    T::replace(&mut comparer, call);
+    let mut cases = (LARGE..CASES).chain(0..LARGE);
+    cases.any(|case| comparer.run(1, T::KIND, case).is_err())
+}
+
+/// Each of the wrong ones is found.
+fn each_is_found<T: Lent>(wrong: &Wrong<T>) {
+    let mut missed = Vec::new();
+    let mut settle = |name: &str, found: bool| {
+        if !found {
+            missed.push(name.to_string());
+        }
+    };
+    for &(name, alter) in wrong.altered {
+        let call = move |mut lent: T, out: &mut [u8], result: &mut [u64]| {
+            alter(&mut lent);
+            lent.write(out, result)
+        };
+        settle(name, found(call));
+    }
+    for (way, narrow) in [("cut", cut as Narrow), ("judged first", largest)] {
+        for &(name, change) in wrong.places {
+            let call = move |mut lent: T, out: &mut [u8], result: &mut [u64]| {
+                change(&mut lent, narrow);
+                lent.write(out, result)
+            };
+            settle(&format!("{name}, {way}"), found(call));
+        }
+    }
+    for &(name, other, holds) in wrong.refused {
+        let call = move |lent: T, out: &mut [u8], result: &mut [u64]| {
+            numbered(&lent, out, result, |lent, number, room| {
+                if holds(lent, number, room) {
+                    other
+                } else {
+                    number
+                }
+            })
+        };
+        settle(name, found(call));
+    }
+    for &(name, instead) in wrong.instead {
+        let call = move |lent: T, out: &mut [u8], result: &mut [u64]| {
+            numbered(&lent, out, result, |lent, number, _| instead(lent, number))
+        };
+        settle(name, found(call));
+    }
+    for &(name, call) in wrong.others {
+        settle(name, found(call));
+    }
+    for &(name, wrong) in ANY {
+        let call = move |lent: T, out: &mut [u8], result: &mut [u64]| {
+            wrong(&|out, result| lent.write(out, result), out, result)
+        };
+        settle(name, found(call));
+    }
     assert!(missed.is_empty(), "not found: {missed:?}");
+}
+
+/// What the wrong ones are made of is right.
+fn the_right_ones_are_not<T: Lent>() {
+    assert!(!found(|lent: T, out, result| lent.write(out, result)));
+    assert!(!found(|lent: T, out, result| numbered(
+        &lent,
+        out,
+        result,
+        |_, number, _| number
+    )));
+    assert!(!found(|lent: T, out, result| {
+        rewritten(&|out, result| lent.write(out, result), out, result, |_| ())
+    }));
+}
+
+#[test]
+fn of_headers() {
+    each_is_found(&headers::WRONG);
+    the_right_ones_are_not::<headers::Own>();
+}
+
+#[test]
+fn of_footers() {
+    each_is_found(&footers::WRONG);
+    the_right_ones_are_not::<footers::Own>();
+}
+
+#[test]
+fn of_page_lists() {
+    each_is_found(&page_lists::WRONG);
+    the_right_ones_are_not::<page_lists::Own>();
 }
 
 /// What becomes of a number that is too wide for so many bits.
