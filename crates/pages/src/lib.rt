@@ -127,7 +127,7 @@ fn scan_pages(
 }
 
 // The verdict on the count of pages of a column, after so many pages of earlier columns.
-fn running_total(total: usize, n: usize) -> u16
+pub fn running_total(total: usize, n: usize) -> u16
     ensures { λ r. ⌜ r ≡ runningTotal total n ⌝ }
 {
     if total <= rows::MOST_PAGES {

@@ -1,0 +1,5 @@
+pub mod Storing
+pub mod Sealing
+pub mod Laid
+pub mod Answers
+pub mod Counting

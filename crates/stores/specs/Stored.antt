@@ -1,0 +1,12 @@
+-- Bytes stored into lent bytes.
+use Prim.Native.Nat.{ℕ, _+_, _≤_}
+use mathlib.Core.List.{List}
+use mathlib.Core.Path.{_≡_}
+use lib.ListN.{length}
+use lib.Seq.{sets}
+
+-- what a call leaves that stores bytes from a place on: where there is room, these bytes stand there, nothing else has changed, and the
+-- answer is the place after them
+pub record Stored (old : List ℕ) (at : ℕ) (bytes new : List ℕ) (end : ℕ) : Type 0 where
+  pub onward : at ≤ end
+  pub done : at + length bytes ≤ length old → (new ≡ sets old at bytes) × (end ≡ at + length bytes)
