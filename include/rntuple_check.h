@@ -40,7 +40,7 @@
  *   22  page checksum differs
  *   23  column type unknown, or Switch
  *   24  unused bits of a Bit page set
- *   25  element to encode does not fit its width
+ *   25  element to encode, or number to write, does not fit its width
  *   26  page list has another checksum than its cluster's row
  *
  * Results. A call with result words writes all of them: the values named at
