@@ -16,7 +16,7 @@ ghost use Rattle.clusters.specs.Answers.{clusterStep};
 
 // The verdict on an entry count with four flags above it: flag 60, the other flags, and the running sum, without a sum that
 // could wrap.
-fn entry_count(sum: u64, word: u64) -> u16
+pub fn entry_count(sum: u64, word: u64) -> u16
     ensures { λ r. ⌜ r ≡ entryCount sum word ⌝ }
 {
     if word / 1152921504606846976 % 2 == 0 {

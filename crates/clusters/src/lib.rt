@@ -2,6 +2,7 @@
 mod cluster;
 
 pub use cluster::cluster_record;
+pub use cluster::entry_count;
 pub use cluster::scan_cluster_list;
 use rows::ClusterRow;
 use wire::Fault;

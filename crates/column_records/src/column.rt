@@ -12,7 +12,7 @@ ghost use Rattle.records.specs.Records.{sized, column};
 ghost use Rattle.column_records.specs.Answers.{columnStep};
 
 // The verdict on a column's bits: those of its type, where that is known.
-fn sized(column_type: u64, bits: u64) -> u16
+pub fn sized(column_type: u64, bits: u64) -> u16
     ensures { λ r. ⌜ r ≡ sized «column_type» bits ⌝ }
 {
     if column_type::is_known(column_type) {

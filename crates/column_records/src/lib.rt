@@ -4,6 +4,7 @@ mod column;
 
 use alias::alias_at;
 use column::column_at;
+pub use column::sized;
 use frames::FrameStep;
 use rows::AliasRow;
 use rows::ColumnRow;

@@ -48,7 +48,7 @@ pub fn locator_at(s: &[u8], at: usize, file: u64, size: u64, checksum: bool) -> 
 }
 
 // The verdict on a locator's first word: bit 31 is not set, and the stored size is the one that is due.
-fn stored_as(size: u64, word: u64) -> u16
+pub fn stored_as(size: u64, word: u64) -> u16
     ensures { λ r. ⌜ r ≡ storedAs size word ⌝ }
 {
     if word < 2147483648 {
@@ -62,14 +62,16 @@ fn stored_as(size: u64, word: u64) -> u16
 
 // The verdict on an offset: the range of `size` bytes from there on, with `behind` more behind it, is inside the file. No sum is taken
 // that could wrap.
-fn in_file(file: u64, size: u64, behind: u64, offset: u64) -> u16
-    requires { ⌜ size + behind < 2 ^ 64 ⌝ }
+pub fn in_file(file: u64, size: u64, behind: u64, offset: u64) -> u16
     ensures { λ r. ⌜ r ≡ inFile file size behind offset ⌝ }
 {
-    let length = size + behind;
-    if length <= file {
-        if offset <= file - length {
-            return 0;
+    if size <= file {
+        let rest = file - size;
+        if behind <= rest {
+            if offset <= rest - behind {
+                return 0;
+            }
+            return 18;
         }
         return 18;
     }
@@ -86,7 +88,6 @@ fn stored_size_at(s: &[u8], at: usize, size: u64) -> NumberStep
 }
 
 fn offset_at(s: &[u8], at: usize, file: u64, size: u64, behind: u64) -> NumberStep
-    requires { ⌜ size + behind < 2 ^ 64 ⌝ }
     ensures { λ r. ⌜ numberStep r ≡ tested 8 (inFile file size behind) (now (s .entry)) at ⌝ }
 {
     match wire::number_8(s, at) {

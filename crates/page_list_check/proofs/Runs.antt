@@ -10,7 +10,7 @@ use borrow.Author.Tests.{leb-true, ltb-true, eqb-true, eqb-false, le-leb, lt-ltb
 use lib.ListN.{length, take, drop, length-append, length-drop}
 use lib.Seq.{length-take-le, drop-drop}
 use Rattle.numbers.specs.Choice.{pick}
-use Rattle.tree.proofs.Simple.{both-true}
+use Rattle.numbers.proofs.Choice.{both-true}
 use Rattle.rows.specs.Tables.{firstRows}
 use Rattle.rows.proofs.FirstRows.{rows-length}
 use Rattle.writing.specs.Rows.{pageWordsAt, pageRowsIn}
@@ -135,7 +135,7 @@ module _ (table : List ℕ) where
     reached-more =
         let next : c + 1 ≡ suc c = add-one c in
         let long : length (columnAt table c) ≡ leading c (drop i rows) =
-            ap length (m .later c (omega arith) ∙ sym (run .front)) ∙ length-take-le (leading c (drop i rows)) (drop i rows) (leading-few c (drop i rows)) in
+        ap length (m .later c (omega arith) ∙ sym (run .front)) ∙ length-take-le (leading c (drop i rows)) (drop i rows) (leading-few c (drop i rows)) in
         let rest : drop (leading c (drop i rows)) (drop i rows) ≡ drop e rows = drop-drop (leading c (drop i rows)) i rows ∙ ap (λ (k : ℕ). drop k rows) (sym stop) in
         record {
           inside = run-fits .1;

@@ -11,7 +11,7 @@ pub struct Read {
 }
 
 // The verdict on a field's or a column's number: below its count.
-fn below(limit: u64, v: u64) -> u16
+pub fn below(limit: u64, v: u64) -> u16
     ensures { λ r. ⌜ r ≡ below limit v ⌝ }
 {
     if v < limit {
@@ -21,7 +21,7 @@ fn below(limit: u64, v: u64) -> u16
 }
 
 // The verdict on a role or on flags: none above the greatest that is listed.
-fn listed(most: u64, v: u64) -> u16
+pub fn listed(most: u64, v: u64) -> u16
     ensures { λ r. ⌜ r ≡ listed most v ⌝ }
 {
     if v <= most {

@@ -4,3 +4,4 @@ pub mod Header
 pub mod Footer
 pub mod PageList
 pub mod Answers
+pub mod Promises
