@@ -46,7 +46,7 @@ module _ (file : ℕ) where
   columns-inside bits i done (ps ∷ pss) v = (column-inside i (getD bits (length done) 0) [] ps (v .0 .2), columns-inside bits (suc i) _ pss (v .1))
 
 -- how many pages there are in all
-flat-long : (pss : List (List PageRow)) → length (flatten pss) ≡ pagesOf pss
+pub flat-long : (pss : List (List PageRow)) → length (flatten pss) ≡ pagesOf pss
 unfolding flatten pagesOf
 flat-long [] = refl
 flat-long (ps ∷ pss) = length-append ps (flatten pss) ∙ ap (λ (n : ℕ). length ps + n) (flat-long pss)

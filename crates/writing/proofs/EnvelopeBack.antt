@@ -7,6 +7,7 @@ use native.Mathlib.Omega.{arith}
 use lib.Dec.{leb, eqb}
 use borrow.Author.Tests.{leb-true, leb-false, le-leb, eq-eqb, lt-leb}
 use lib.ListN.{length, take, length-append}
+use Rattle.numbers.proofs.Choice.{clash}
 use Rattle.numbers.specs.Numbers.{little}
 use Rattle.checksum.specs.Crc.{crc32}
 use Rattle.wire.specs.Reading.{Step, found, refused, Rule, fault, accepted, unless}
@@ -19,9 +20,9 @@ use Rattle.tree.specs.EnvelopeTree.{sealed}
 use Rattle.tree.proofs.Place.{length-spelled, stands-left, stands-right, little-spelled, container-long}
 use Rattle.tree.proofs.Frames.{closed-complete}
 use Rattle.tree.proofs.Envelope.{Opened, opens, sealed-parts}
-use Rattle.writing.specs.Piece.{Piece, first, pieces, enveloped, testedLast}
+use Rattle.writing.specs.Piece.{Piece, first, pieces, enveloped, testedFirst, testedLast}
 use Rattle.writing.specs.Promises.{Promised}
-use Rattle.writing.proofs.Sure.{Sure, first-none, unless-none, envelope-sure}
+use Rattle.writing.proofs.Sure.{Whole, Sure, first-none, unless-none, envelope-sure}
 use Rattle.writing.proofs.ReadBack.{At, Found, RefusedBy, Reads}
 
 -- there are no more rows than bytes, where each row has one
@@ -41,6 +42,12 @@ pub record Accepts (supported version minimum : ℕ) : Type 0 where
   pub least : 1 ≤ minimum
   pub order : minimum ≤ version
   pub read : minimum ≤ supported
+
+pub minimum-one : (supported version : ℕ) → 1 ≤ supported → 1 ≤ version → version < 65536 → Accepts supported version 1
+minimum-one supported version some order fits = record { fits = fits; least = omega arith; order = order; read = some }
+
+pub first-version : Accepts 1 1 1
+first-version = minimum-one 1 1 (omega arith) (omega arith) (omega arith)
 
 -- what a payload's rule is told of them
 abbrev pub told : ℕ → ℕ → Versions
@@ -70,15 +77,15 @@ is-opened supported r version minimum bs v small =
     let w₂ : little 2 s 2 ≡ minimum = little-spelled 2 minimum (omega (arith, v .fits, v .order)) (stands-left b₂ bs second) in
     let sum : crc32 (take n s) ≡ little 4 s n = rw long at (ap crc32 (seal .part) ∙ sym (seal .sum)) in
     let o : Opened supported s n =
-        record {
-          small = small;
-          long = omega arith;
-          enough = omega arith;
-          sum = sum;
-          least = omega (arith, w₂, v .least);
-          order = omega (arith, w₁, w₂, v .order);
-          read = omega (arith, w₂, v .read);
-        }
+    record {
+      small = small;
+      long = omega arith;
+      enough = omega arith;
+      sum = sum;
+      least = omega (arith, w₂, v .least);
+      order = omega (arith, w₁, w₂, v .order);
+      read = omega (arith, w₂, v .read);
+    }
     in
     record {
       body = record { inside = omega arith; stands = third; room = omega arith };
@@ -93,7 +100,7 @@ too-long supported r s big =
 
 -- an envelope is taken as its payload is
 pub record Takes {A : Type 0} (read : Step A) (x : Piece) (M : A → Type 0) : Type 0 where
-  pub sure : Sure x
+  pub sure : Whole x
   pub finds : x .number ≡ 0 → (q : ℕ) × Found read q M
   pub refuses : x .fits ≡ true → (x .number ≡ 0 → ⊥) → RefusedBy read (x .number)
 
@@ -165,6 +172,18 @@ module _ {A : Type 0} (after : Step A → Step A) (n : ℕ) where
       go fits (suc k) e bad′ =
           let w = t .refuses fits (λ z. absurd (omega (arith, e, z))) in
           record { by = w .by; is = ap after (w .is) ∙ same (w .by); number = w .number ∙ e }
+
+-- a test before all others: one that is passed changes nothing, and of what fails it nothing fits
+pub tested-takes : {A : Type 0} {read : Step A} {x : Piece} {M : A → Type 0} (n : ℕ) → Takes read x M → Takes read (testedFirst true n x) M
+tested-takes n t = record { sure = record { fits = t .sure .fits; long = t .sure .long }; finds = t .finds; refuses = t .refuses }
+
+pub unfit-takes : {A : Type 0} {read : Step A} {M : A → Type 0} (x : Piece) → x .fits ≡ false → (x .number ≡ 0 → ⊥) → Takes read x M
+unfit-takes x unfit bad =
+    record {
+      sure = record { fits = λ e. absurd (bad e); long = λ e. clash e unfit };
+      finds = λ e. absurd (bad e);
+      refuses = λ e. clash e unfit;
+    }
 
 -- the promises
 pub promised : {A : Type 0} {read : Step A} {x : Piece} {M : A → Type 0} → Takes read x M → Promised x read M

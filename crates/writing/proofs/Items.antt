@@ -1,13 +1,12 @@
 -- The items of a list by the numbers of their rows: the laws of the loops that check, count and write them.
 use Prim.Native.Nat.{ℕ, zero, suc, _+_, _-_, _≤_, _<_}
 use mathlib.Core.List.{List, [], _∷_, _++_, append-assoc, append-nil}
-use mathlib.Core.Bool.{Bool, true, false}
 use mathlib.Core.Path.{_≡_, refl, sym, ap, _∙_}
 use native.Mathlib.Numerals.{add-one}
 use native.Mathlib.Omega.{arith}
-use Rattle.numbers.specs.Choice.{both}
+use Rattle.numbers.proofs.Choice.{both-assoc, both-right}
 use Rattle.rows.specs.Tables.{firstRows}
-use Rattle.writing.specs.Piece.{Place, Piece, first, nothing, _&_, pieces}
+use Rattle.writing.specs.Piece.{Piece, first, nothing, _&_, pieces}
 
 -- pieces that are the same in each part
 
@@ -22,17 +21,9 @@ pub first-nonzero : (a b : ℕ) → (a ≡ 0 → ⊥) → a ≡ first a b
 first-nonzero zero b n = absurd (n refl)
 first-nonzero (suc a) b n = refl
 
-first-assoc : (a b c : ℕ) → first (first a b) c ≡ first a (first b c)
+pub first-assoc : (a b c : ℕ) → first (first a b) c ≡ first a (first b c)
 first-assoc zero b c = refl
 first-assoc (suc a) b c = refl
-
-both-assoc : (a b c : Bool) → both (both a b) c ≡ both a (both b c)
-both-assoc true b c = refl
-both-assoc false b c = refl
-
-both-true : (a : Bool) → both a true ≡ a
-both-true true = refl
-both-true false = refl
 
 join-assoc : (x y z : Piece) → (x & y) & z ≡ x & (y & z)
 join-assoc x y z =
@@ -44,7 +35,7 @@ join-assoc x y z =
     (append-assoc (x .places) (y .places) (z .places))
 
 join-nothing : (x : Piece) → x & nothing ≡ x
-join-nothing x = alike _ _ (append-nil (x .bytes)) (omega arith) (both-true (x .fits)) (first-alone (x .number)) (append-nil (x .places))
+join-nothing x = alike _ _ (append-nil (x .bytes)) (omega arith) (both-right (x .fits)) (first-alone (x .number)) (append-nil (x .places))
 
 nothing-join : (x : Piece) → nothing & x ≡ x
 nothing-join x = alike _ _ refl (omega arith) refl refl refl

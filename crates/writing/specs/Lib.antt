@@ -5,3 +5,4 @@ pub mod Footer
 pub mod PageList
 pub mod Answers
 pub mod Promises
+pub mod UpTo

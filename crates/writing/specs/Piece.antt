@@ -43,6 +43,11 @@ abbrev pub first : ℕ → ℕ → ℕ
 first zero m = m
 first (suc n) m = suc n
 
+-- the first refusal of places, front to back
+abbrev pub firstOf : List Place → ℕ
+firstOf [] = 0
+firstOf (p ∷ ps) = first (p .number) (firstOf ps)
+
 -- one place: its bytes, how many they would be, and what is refused there
 abbrev pub alone : List ℕ → ℕ → Place → Piece
 alone bytes long p = record { bytes = bytes; long = long; fits = p .fits; number = p .number; places = p ∷ [] }
