@@ -142,3 +142,7 @@ stored-list {a} {b} {c} {d} {at} {m} {e} {m′} n body one two three =
           let last : Stored c at h d m′ = subst (λ (k : ℕ). Stored c at (spelled 4 (2 ^ 32 - k) ++ spelled 4 n) d m′) size three in
           stored-as same (stored-head (spelled 8 0) body h one two last (omega arith)) .done room;
     }
+
+-- numbers one after the other have as many bytes as they say
+pub numbers-long : (k n : ℕ) (rest : List ℕ) {m : ℕ} → length rest ≡ m → length (spelled k n ++ rest) ≡ k + m
+numbers-long k n rest e = length-append (spelled k n) rest ∙ (λ i. length-spelled k n i + e i)

@@ -81,6 +81,6 @@ pub fn store_checksum(end: usize, out: &mut [u8])
 {
     if end <= out.len() {
         let sum = checksum::crc32(&out[..end]);
-        store_4(sum as u64, end, out);
+        store_number(4, sum as u64, end, out);
     }
 }

@@ -19,17 +19,17 @@ slice-aggregate-crc32 c = sym (length-take-le (c .before .before .before .args .
 crc32-requires : tie.Need-crc32-requires
 crc32-requires c κs = search needs
 
-cast-store-4 : tie.Need-cast-store-4
-cast-store-4 c = search needs
+cast-store-number : tie.Need-cast-store-number
+cast-store-number c = search needs
 
-store-4-requires : tie.Need-store-4-requires
-store-4-requires c κs = search needs
+store-number-requires : tie.Need-store-number-requires
+store-number-requires c κs = search needs
 
 same-length : tie.Need-same-length
 same-length c = search needs
 
 returns : tie.Need-returns
-returns c = λ room. c .before .before .store-4 .ensures .done (omega (arith, length-spelled 4 (c .before .before .before .before .crc32 .result))) .0 ∙ ap (λ (k : ℕ). sets (now (c .before .before .before .before .before .before .before .before .args .out)) (c .before .before .before .before .before .before .before .before .args .end) (spelled 4 k)) (c .before .before .before .before .crc32 .ensures)
+returns c = λ room. c .before .before .store-number .ensures .done (omega (arith, length-spelled 4 (c .before .before .before .before .crc32 .result))) .0 ∙ ap (λ (k : ℕ). sets (now (c .before .before .before .before .before .before .before .before .args .out)) (c .before .before .before .before .before .before .before .before .args .end) (spelled 4 k)) (c .before .before .before .before .crc32 .ensures)
 
 returns-2 : tie.Need-returns-2
 returns-2 c = λ room. absurd (omega arith)
@@ -41,8 +41,8 @@ store-checksum-spec =
     slice-reshare-prefix-crc32
     slice-aggregate-crc32
     crc32-requires
-    cast-store-4
-    store-4-requires
+    cast-store-number
+    store-number-requires
     same-length
     returns
     returns-2)
