@@ -21,7 +21,7 @@ entries-snoc [] x = omega arith
 entries-snoc (c ∷ cs) x = let e = entries-snoc cs x in omega arith
 
 -- an entry count that has passed its verdict keeps the sum below 2^60
-count-fits : (sum w : ℕ) → entryCount sum w ≡ 0 → sum + w < 2 ^ 60
+pub count-fits : (sum w : ℕ) → entryCount sum w ≡ 0 → sum + w < 2 ^ 60
 count-fits sum w e =
     let (_, later) = passed (eqb (w / 2 ^ 60 % 2) 0) 16 (unless (ltb w (2 ^ 60)) 12 (unless (ltb (sum + w) (2 ^ 60)) 19 0)) e in
     let (_, last) = passed (ltb w (2 ^ 60)) 11 (unless (ltb (sum + w) (2 ^ 60)) 19 0) later in

@@ -6,16 +6,16 @@ use mathlib.Core.Path.{_≡_, refl, sym, ap, subst, _∙_}
 use native.Mathlib.Numerals.{add-one}
 use native.Mathlib.Omega.{arith}
 use lib.Dec.{ltb, leb, eqb}
-use borrow.Author.Tests.{leb-true, ltb-true, eqb-true, eqb-false, le-leb, lt-ltb, ne-eqb}
+use borrow.Author.Tests.{eqb-true, eqb-false, le-leb, lt-ltb, ne-eqb}
 use lib.ListN.{length, take, drop, length-append, length-drop}
 use lib.Seq.{length-take-le, drop-drop}
 use Rattle.numbers.specs.Choice.{pick}
-use Rattle.numbers.proofs.Choice.{both-true}
 use Rattle.rows.specs.Tables.{firstRows}
 use Rattle.rows.proofs.FirstRows.{rows-length}
 use Rattle.writing.specs.Rows.{pageWordsAt, pageRowsIn}
 use Rattle.writing.specs.PageList.{ofColumn, byColumn, inColumnOrder, pagesIn}
 use Rattle.writing.specs.declared.PageWords.{PageWords}
+use Rattle.writing.proofs.ColumnOrder.{first-row, none-below}
 use Rattle.page_list_check.specs.Runs.{leading, columnAt}
 use Rattle.page_list_check.proofs.Parts.{part-rows}
 
@@ -27,22 +27,6 @@ leading-few c (p ∷ ps) = by (eqb (p .column) c) (leading-few c ps)
     by : (b : Bool) → leading c ps ≤ length ps → pick b (suc (leading c ps)) 0 ≤ suc (length ps)
     by true h = omega arith
     by false h = omega arith
-
--- what the order says of the first row
-first-row : (n c : ℕ) (p : PageWords) (ps : List PageWords) → inColumnOrder n c (p ∷ ps) ≡ true → (c ≤ p .column) × (p .column < n) × (inColumnOrder n (p .column) ps ≡ true)
-unfolding inColumnOrder
-first-row n c p ps e =
-    let (a, rest) = both-true (leb c (p .column)) _ e in
-    let (b, later) = both-true (ltb (p .column) n) _ rest in
-    (leb-true c (p .column) a, ltb-true (p .column) n b, later)
-
-none-below : (n c d : ℕ) (rows : List PageWords) → c < d → inColumnOrder n d rows ≡ true → ofColumn c rows ≡ []
-unfolding ofColumn
-none-below n c d [] less e = refl
-none-below n c d (p ∷ ps) less e =
-    let (a, b, later) = first-row n d p ps e in
-    let other : eqb (p .column) c ≡ false = ne-eqb (p .column) c (λ z. absurd (omega (arith, z))) in
-    rw other (none-below n c (p .column) ps (omega arith) later)
 
 -- the first k rows are those of column c, and no later column has any of them
 record Cut (n c : ℕ) (rows : List PageWords) (k : ℕ) : Type 0 where
@@ -107,6 +91,14 @@ module _ (table : List ℕ) where
   reached-none n e = record { inside = omega arith; before = refl; order = e; later = λ d h. refl }
 
   -- the run of column c ends where a row of another column stands
+  pub run-fits : {c i e : ℕ} → i ≤ length table / 5 → e ≡ i + leading c (drop i (pageRowsIn table)) → (i ≤ e) × (e ≤ length table / 5)
+  run-fits {c} {i} inside stop =
+      let rows = pageRowsIn table in
+      let few = leading-few c (drop i rows) in
+      let rest = length-drop i rows in
+      let many = rows-length pageWordsAt table (length table / 5) in
+      (omega arith, omega arith)
+
   module _ {n c i e : ℕ} (m : Reached n c i) (stop : e ≡ i + leading c (drop i (pageRowsIn table))) where
     rows : List PageWords
     rows = pageRowsIn table
@@ -115,20 +107,12 @@ module _ (table : List ℕ) where
     unfolding rows
     run = cut n c (drop i rows) (m .order)
 
-    few : leading c (drop i rows) ≤ length table / 5 - i
-    unfolding rows
-    few = omega (arith, leading-few c (drop i rows), length-drop i rows, rows-length pageWordsAt table (length table / 5))
-
-    pub run-fits : (i ≤ e) × (e ≤ length table / 5)
-    unfolding rows
-    run-fits = let a = m .inside in let f = few in (omega arith, omega arith)
-
     -- its rows are those of the column
     pub run-rows : pageRowsIn (take (5 * e - 5 * i) (drop (5 * i) table)) ≡ columnAt table c
     unfolding rows
     run-rows =
         let many : e - i ≡ leading c (drop i rows) = omega arith in
-        part-rows table i e (run-fits .0) (run-fits .1) ∙ ap (λ (k : ℕ). take k (drop i rows)) many ∙ run .front ∙ sym (m .later c (omega arith))
+        part-rows table i e (run-fits (m .inside) stop .0) (run-fits (m .inside) stop .1) ∙ ap (λ (k : ℕ). take k (drop i rows)) many ∙ run .front ∙ sym (m .later c (omega arith))
 
     pub reached-more : Reached n (c + 1) e
     unfolding rows firstRows
@@ -138,7 +122,7 @@ module _ (table : List ℕ) where
         ap length (m .later c (omega arith) ∙ sym (run .front)) ∙ length-take-le (leading c (drop i rows)) (drop i rows) (leading-few c (drop i rows)) in
         let rest : drop (leading c (drop i rows)) (drop i rows) ≡ drop e rows = drop-drop (leading c (drop i rows)) i rows ∙ ap (λ (k : ℕ). drop k rows) (sym stop) in
         record {
-          inside = run-fits .1;
+          inside = run-fits (m .inside) stop .1;
           before = ap (λ (k : ℕ). pagesIn (firstRows columnAt table k)) next ∙ pages-snoc (firstRows columnAt table c) (columnAt table c) ∙ omega (arith, m .before, long, stop);
           order = ap (λ (k : ℕ). inColumnOrder n k (drop e rows)) next ∙ ap (inColumnOrder n (suc c)) (sym rest) ∙ run .order;
           later = λ d h. m .later d (omega arith) ∙ run .later d (omega arith) ∙ ap (ofColumn d) rest;

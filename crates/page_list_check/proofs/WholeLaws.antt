@@ -17,7 +17,6 @@ use Rattle.header.specs.Header.{Lists, flagsOf}
 use Rattle.header.specs.Tables.{parentsOf}
 use Rattle.rows.specs.Words.{mostFields, mostColumns}
 use Rattle.rows.specs.Tables.{columnsIn}
-use Rattle.rows.proofs.FirstRows.{rows-length}
 use Rattle.rows.specs.declared.PageRow.{PageRow}
 use Rattle.pages.specs.Pages.{elementsOf}
 use Rattle.column_pages.specs.ColumnPages.{bitsOf, perColumn}
@@ -32,13 +31,9 @@ use Rattle.writing.specs.Rows.{pageRowsIn}
 use Rattle.writing.specs.PageList.{byColumn, inColumnOrder, columnPagesItem, pageListPayloadPiece, pageSays, pagesSay, totalsNumber}
 use Rattle.writing.specs.declared.PageWords.{PageWords}
 use Rattle.writing.proofs.Items.{first-nonzero}
-use Rattle.page_list_check.specs.Runs.{columnAt}
+use Rattle.writing.proofs.ColumnOrder.{columns-long}
 use Rattle.page_list_check.specs.Checks.{elementsIn, AllSummed}
 use Rattle.page_list_check.specs.declared.columns.ColumnSums.{ColumnSums}
-use Rattle.page_list_check.proofs.Runs.{by-column}
-
-columns-long : (table : List ℕ) (n : ℕ) → length (byColumn 0 n (pageRowsIn table)) ≡ n
-columns-long table n = ap length (by-column table n) ∙ rows-length columnAt table n
 
 -- a count that passes is not above the ceiling
 pub count-fits : (n : ℕ) {count : ℕ} → count ≡ atMost mostColumns n → count ≡ 0 → n ≤ mostColumns
@@ -65,7 +60,7 @@ module _ (file entries : ℕ) (parents flags columns table : List ℕ) (n : ℕ)
     unfolding pageListPayloadPiece
     payload l o =
         ap (λ (bits : List ℕ). listPiece (perColumn (length bits)) (columnPagesItem file bits) pss .number) (sym (o .bitsAre))
-        ∙ (λ j. first (perColumn (bits-length columns n j) (columns-long table n j)) (pieces (columnPagesItem file (bitsIn columns n)) [] pss .number))
+        ∙ (λ j. first (perColumn (bits-length columns n j) (columns-long 0 n (pageRowsIn table) j)) (pieces (columnPagesItem file (bitsIn columns n)) [] pss .number))
         ∙ ap (λ (k : ℕ). first k (pieces (columnPagesItem file (bitsIn columns n)) [] pss .number)) (per-column n ∙ sym is)
 
     pub too-many-columns : (count ≡ 0 → ⊥) → Number count
@@ -81,14 +76,14 @@ module _ (file entries : ℕ) (parents flags columns table : List ℕ) (n : ℕ)
       pub columns-inside : r .number ≡ 0 → n ≤ length (r .elements)
       columns-inside fine =
           let few = count-fits n is good in
-          let many = length-map pss elementsIn ∙ columns-long table n in
+          let many = length-map pss elementsIn ∙ columns-long 0 n (pageRowsIn table) in
           let long = ap length (told .elementsAre fine) ∙ over-length (map elementsIn pss) (replicate mostColumns 0) (omega arith) in
           omega arith
 
       sums-are : r .number ≡ 0 → take n (r .elements) ≡ map elementsOf (pagesSay n (pageRowsIn table))
       unfolding pagesSay
       sums-are fine =
-          ap (take n) (told .elementsAre fine) ∙ take-at (map elementsIn pss) _ n (length-map pss elementsIn ∙ columns-long table n)
+          ap (take n) (told .elementsAre fine) ∙ take-at (map elementsIn pss) _ n (length-map pss elementsIn ∙ columns-long 0 n (pageRowsIn table))
           ∙ sym (map-map elementsOf (map pageSays) pss)
 
       pub totals-last : r .number ≡ 0 → {t : ℕ} → t ≡ totalsNumber (totals entries (columnsIn columns n) (take n (r .elements)) 0 (take mostFields parents) flags) → Number t

@@ -8,11 +8,13 @@ use lib.ListN.{length}
 use lib.Dec.{leb, eqb}
 use borrow.Author.Tests.{le-leb, lt-leb, eq-eqb, ne-eqb}
 use Rattle.numbers.specs.Rows.{over}
-use Rattle.wire.specs.Reading.{unless}
+use Rattle.wire.specs.Reading.{Step, found, refused, unless}
+use Rattle.wire.specs.declared.Fault.{Fault}
 use Rattle.envelope.specs.Envelope.{ceiling}
+use Rattle.header.specs.Header.{Header}
 use Rattle.header.specs.Beside.{read}
 use Rattle.writing.specs.Piece.{Piece, first, testedLast, enveloped}
-use Rattle.writing.specs.Answers.{Answered, verdict, answer, left, outcomeOf}
+use Rattle.writing.specs.Answers.{Answered, verdict, answer, left, besideHeader, outcomeOf}
 use Rattle.writing.specs.declared.WriteAnswer.{WriteAnswer}
 use Rattle.writing.specs.declared.WriteAnswer.the-variants.{Written, Refused}
 
@@ -49,7 +51,7 @@ module _ (k : ℕ) (x : Piece) (out : List ℕ) where
       answered out (Refused k n) (rw refuses (ap (Refused k) e)) (rw refuses refl)
 
   -- nothing is refused, and there is no room
-  roomless : x .number ≡ 0 → length out < x .long → Answered k (read x) out out (Refused k 20)
+  pub roomless : x .number ≡ 0 → length out < x .long → Answered k (read x) out out (Refused k 20)
   unfolding answer verdict left
   roomless good few =
       let fine : eqb (x .number) 0 ≡ true = eq-eqb (x .number) 0 good in
@@ -57,7 +59,7 @@ module _ (k : ℕ) (x : Piece) (out : List ℕ) where
       answered out (Refused k 20) (rw (fine, small) refl) (rw (fine, small) refl)
 
   -- nothing is refused, and there is room
-  wrote : (out′ : List ℕ) → x .number ≡ 0 → x .long ≤ length out → out′ ≡ over (x .bytes) out → Answered k (read x) out out′ (Written (x .long))
+  pub wrote : (out′ : List ℕ) → x .number ≡ 0 → x .long ≤ length out → out′ ≡ over (x .bytes) out → Answered k (read x) out out′ (Written (x .long))
   unfolding answer verdict left
   wrote out′ good enough is =
       let fine : eqb (x .number) 0 ≡ true = eq-eqb (x .number) 0 good in
@@ -93,3 +95,12 @@ module _ (k : ℕ) (x : Piece) (out : List ℕ) where
           let fine = sym number-is ∙ good in
           let bytes = same fine in
           rw e (wrote out′ fine (omega arith) (stands (omega arith)))
+
+-- what is written beside a header: the header's refusal first
+module _ (k : ℕ) (x : Header → Piece) (out : List ℕ) {s : Step Header} where
+  pub header-refused : {f : Fault} → s ≡ refused f → Answered k (besideHeader x s) out out (Refused 1 (f .number))
+  unfolding answer left
+  header-refused e = rw e (record { answers = refl; reports = refl; bytesAre = refl })
+
+  pub header-found : {h : Header} {p : ℕ} {out′ : List ℕ} {r : WriteAnswer} → s ≡ found h p → Answered k (read (x h)) out out′ r → Answered k (besideHeader x s) out out′ r
+  header-found e a = rw e a

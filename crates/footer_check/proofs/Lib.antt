@@ -1,0 +1,3 @@
+pub mod AlikeLaws
+pub mod Rows
+pub mod Whole
