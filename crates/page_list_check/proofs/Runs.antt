@@ -91,8 +91,8 @@ module _ (table : List ℕ) where
   reached-none n e = record { inside = omega arith; before = refl; order = e; later = λ d h. refl }
 
   -- the run of column c ends where a row of another column stands
-  pub run-fits : {c i e : ℕ} → i ≤ length table / 5 → e ≡ i + leading c (drop i (pageRowsIn table)) → (i ≤ e) × (e ≤ length table / 5)
-  run-fits {c} {i} inside stop =
+  pub run-fits : (c i e : ℕ) → i ≤ length table / 5 → e ≡ i + leading c (drop i (pageRowsIn table)) → (i ≤ e) × (e ≤ length table / 5)
+  run-fits c i e inside stop =
       let rows = pageRowsIn table in
       let few = leading-few c (drop i rows) in
       let rest = length-drop i rows in
@@ -112,7 +112,7 @@ module _ (table : List ℕ) where
     unfolding rows
     run-rows =
         let many : e - i ≡ leading c (drop i rows) = omega arith in
-        part-rows table i e (run-fits (m .inside) stop .0) (run-fits (m .inside) stop .1) ∙ ap (λ (k : ℕ). take k (drop i rows)) many ∙ run .front ∙ sym (m .later c (omega arith))
+        part-rows table i e (run-fits c i e (m .inside) stop .0) (run-fits c i e (m .inside) stop .1) ∙ ap (λ (k : ℕ). take k (drop i rows)) many ∙ run .front ∙ sym (m .later c (omega arith))
 
     pub reached-more : Reached n (c + 1) e
     unfolding rows firstRows
@@ -122,7 +122,7 @@ module _ (table : List ℕ) where
         ap length (m .later c (omega arith) ∙ sym (run .front)) ∙ length-take-le (leading c (drop i rows)) (drop i rows) (leading-few c (drop i rows)) in
         let rest : drop (leading c (drop i rows)) (drop i rows) ≡ drop e rows = drop-drop (leading c (drop i rows)) i rows ∙ ap (λ (k : ℕ). drop k rows) (sym stop) in
         record {
-          inside = run-fits (m .inside) stop .1;
+          inside = run-fits c i e (m .inside) stop .1;
           before = ap (λ (k : ℕ). pagesIn (firstRows columnAt table k)) next ∙ pages-snoc (firstRows columnAt table c) (columnAt table c) ∙ omega (arith, m .before, long, stop);
           order = ap (λ (k : ℕ). inColumnOrder n k (drop e rows)) next ∙ ap (inColumnOrder n (suc c)) (sym rest) ∙ run .order;
           later = λ d h. m .later d (omega arith) ∙ run .later d (omega arith) ∙ ap (ofColumn d) rest;

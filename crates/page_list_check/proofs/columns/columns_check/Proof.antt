@@ -29,19 +29,19 @@ mul-part : tie.Need-mul-part Inv-loop μ-loop
 mul-part c = omega (arith, c .before .before .before .before .loop .inv .reached .inside)
 
 mul-part-2 : tie.Need-mul-part-2 Inv-loop μ-loop
-mul-part-2 c = omega (arith, run-fits (c .before .before .before .before .before .before .before .args .pages .now) (c .before .before .before .before .loop .inv .reached .inside) (c .before .before .run-end .ensures))
+mul-part-2 c = omega (arith, run-fits (c .before .before .before .before .before .before .before .args .pages .now) (c .before .before .before .before .loop .i) _ _ (c .before .before .before .before .loop .inv .reached .inside) (c .before .before .run-end .ensures))
 
 mul-part-3 : tie.Need-mul-part-3 Inv-loop μ-loop
 mul-part-3 c = omega (arith, c .before .before .before .before .loop .inv .reached .inside)
 
 sub-part : tie.Need-sub-part Inv-loop μ-loop
-sub-part c = omega (arith, run-fits (c .before .before .before .before .before .before .before .args .pages .now) (c .before .before .before .before .loop .inv .reached .inside) (c .before .before .run-end .ensures))
+sub-part c = omega (arith, run-fits (c .before .before .before .before .before .before .before .args .pages .now) (c .before .before .before .before .loop .i) _ _ (c .before .before .before .before .loop .inv .reached .inside) (c .before .before .run-end .ensures))
 
 part-part-start : tie.Need-part-part-start Inv-loop μ-loop
-part-part-start c = omega (arith, run-fits (c .before .before .before .before .before .before .before .args .pages .now) (c .before .before .before .before .loop .inv .reached .inside) (c .before .before .run-end .ensures))
+part-part-start c = omega (arith, run-fits (c .before .before .before .before .before .before .before .args .pages .now) (c .before .before .before .before .loop .i) _ _ (c .before .before .before .before .loop .inv .reached .inside) (c .before .before .run-end .ensures))
 
 part-part-end : tie.Need-part-part-end Inv-loop μ-loop
-part-part-end c = omega (arith, run-fits (c .before .before .before .before .before .before .before .args .pages .now) (c .before .before .before .before .loop .inv .reached .inside) (c .before .before .run-end .ensures))
+part-part-end c = omega (arith, run-fits (c .before .before .before .before .before .before .before .args .pages .now) (c .before .before .before .before .loop .i) _ _ (c .before .before .before .before .loop .inv .reached .inside) (c .before .before .run-end .ensures))
 
 column-check-requires : tie.Need-column-check-requires Inv-loop μ-loop
 column-check-requires c κs = search needs
