@@ -23,11 +23,11 @@ use Rattle.rows.specs.Words.{mostPages}
 use Rattle.rows.specs.declared.PageRow.{PageRow}
 
 -- a page's elements and bits multiply without wrapping
-pub product-fits : (elements bits : ℕ) → elements < 2 ^ 30 → bits < 2 ^ 16 → elements * bits ≤ 70368744177664
+pub product-fits : (elements bits : ℕ) → elements < 2 ^ 32 → bits < 2 ^ 16 → elements * bits ≤ 281474976710656
 product-fits elements bits e b =
-    let l : elements ≤ 1073741824 = omega arith in
+    let l : elements ≤ 4294967296 = omega arith in
     let k : bits ≤ 65536 = omega arith in
-    let m : elements * bits ≤ 1073741824 * 65536 = mul-le-mul l k in
+    let m : elements * bits ≤ 4294967296 * 65536 = mul-le-mul l k in
     m
 
 -- a page, by its first word and its locator
@@ -40,7 +40,7 @@ unfolding page
 page-by file c bits s at {word} {p} e =
     ap (after (λ w. located file (bytesFor (elementsIn w) bits) (trailer (checksumIn w)) (rowOf c w)) s) e ∙ located-by file (bytesFor (elementsIn word) bits) (trailer (checksumIn word)) (rowOf c word) s p
 
-elements-snoc : (done : List PageRow) (x : PageRow) → elementsOf (done ++ (x ∷ [])) ≡ elementsOf done + x .elements
+pub elements-snoc : (done : List PageRow) (x : PageRow) → elementsOf (done ++ (x ∷ [])) ≡ elementsOf done + x .elements
 unfolding elementsOf
 elements-snoc [] x = omega arith
 elements-snoc (r ∷ rs) x = let e = elements-snoc rs x in omega arith

@@ -8,7 +8,7 @@ use wire::Fault;
 use wire::NumberStep;
 use wire::PlaceStep;
 ghost use mathlib.Core.Path.{_≡_};
-ghost use Prim.Native.Nat.{_^_, _≤_, _<_};
+ghost use Prim.Native.Nat.{_≤_};
 ghost use Rattle.wire.specs.Reading.{mapped, inItem, tested};
 ghost use Rattle.frames.specs.Frames.{closedBy, listHead};
 ghost use Rattle.wire.specs.Answers.{numberStep};
@@ -46,11 +46,10 @@ fn page_word(word: u64) -> u16
 }
 
 // The bytes that hold so many elements of so many bits.
-fn size_of(elements: u64, bits: u16) -> u64
-    requires { ⌜ elements < 2 ^ 30 ⌝ }
+pub fn size_of(elements: u32, bits: u16) -> u64
     ensures { λ r. ⌜ r ≡ bytesFor elements bits ⌝ }
 {
-    (elements * bits as u64 + 7) / 8
+    (elements as u64 * bits as u64 + 7) / 8
 }
 
 fn page_word_at(s: &[u8], at: usize) -> NumberStep
@@ -71,7 +70,8 @@ pub fn page_at(s: &[u8], at: usize, column: ColumnNumber, bits: u16, file: u64) 
         NumberStep::Found(word, locator_place) => {
             let elements = word % 1073741824;
             let checksum = word / 1073741824 == 1;
-            match locator::locator_at(s, locator_place, file, size_of(elements, bits), checksum) {
+            let size = size_of(elements as u32, bits);
+            match locator::locator_at(s, locator_place, file, size, checksum) {
                 RangeStep::Found(range, next) => PageStep::Found(
                     PageRow {
                         column,

@@ -13,7 +13,7 @@ use Rattle.writing.specs.declared.PageWords.{PageWords}
 use Rattle.writing.specs.PageList.{ofColumn, byColumn, inColumnOrder, pagesIn}
 
 -- what the order says of the first row
-first-row : (n c : ℕ) (p : PageWords) (ps : List PageWords) → inColumnOrder n c (p ∷ ps) ≡ true
+pub first-row : (n c : ℕ) (p : PageWords) (ps : List PageWords) → inColumnOrder n c (p ∷ ps) ≡ true
     → (c ≤ p .column) × (p .column < n) × (inColumnOrder n (p .column) ps ≡ true)
 unfolding inColumnOrder
 first-row n c p ps e =
@@ -29,7 +29,7 @@ from-later n c d (p ∷ ps) less e =
     let first : leb c (p .column) ≡ true = le-leb c (p .column) (omega (arith, leb-true d (p .column) a)) in
     rw first rest
 
-none-below : (n c d : ℕ) (rows : List PageWords) → c < d → inColumnOrder n d rows ≡ true → ofColumn c rows ≡ []
+pub none-below : (n c d : ℕ) (rows : List PageWords) → c < d → inColumnOrder n d rows ≡ true → ofColumn c rows ≡ []
 unfolding ofColumn
 none-below n c d [] less e = refl
 none-below n c d (p ∷ ps) less e =

@@ -13,6 +13,9 @@ page-word-at-requires c κs = search needs
 enum-known-word : tie.Need-enum-known-word
 enum-known-word c = search needs
 
+cast-size-of : tie.Need-cast-size-of
+cast-size-of c = omega arith
+
 size-of-requires : tie.Need-size-of-requires
 size-of-requires c κs = search needs
 
@@ -39,4 +42,4 @@ unfolding page
 returns-3 c = (rw (← c .before .before .before .page-word-at .ensures, c .before .f2 .given .1), tt)
 
 pub page-at-spec : {M : Type 1} → statement M
-page-at-spec = tie.close (tie.spec page-word-at-requires enum-known-word size-of-requires locator-at-requires enum-known-range enum-known-f enum-known-f-2 returns returns-2 returns-3)
+page-at-spec = tie.close (tie.spec page-word-at-requires enum-known-word cast-size-of size-of-requires locator-at-requires enum-known-range enum-known-f enum-known-f-2 returns returns-2 returns-3)

@@ -5,10 +5,10 @@ use Rattle.pages.proofs.size_of.Statement.{statement}
 use Rattle.pages.proofs.size_of.Tie as tie
 
 mul-result : tie.Need-mul-result
-mul-result c = let m = product-fits (c .args .elements) (c .args .bits) (c .pre) (omega arith) in omega arith
+mul-result c = let m = product-fits (c .args .elements) (c .args .bits) (omega arith) (omega arith) in omega arith
 
 add-result : tie.Need-add-result
-add-result c = let m = product-fits (c .args .elements) (c .args .bits) (c .pre) (omega arith) in omega arith
+add-result c = let m = product-fits (c .args .elements) (c .args .bits) (omega arith) (omega arith) in omega arith
 
 returns : tie.Need-returns
 returns c = search needs

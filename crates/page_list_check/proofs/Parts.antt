@@ -1,0 +1,53 @@
+-- The rows of a part of a table of pages.
+use Prim.Native.Nat.{ℕ, zero, suc, _+_, _*_, _/_, _-_, _≤_, _<_}
+use mathlib.Core.List.{List, [], _∷_, _++_}
+use mathlib.Core.Path.{_≡_, refl, sym, ap, _∙_}
+use native.Mathlib.Omega.{arith}
+use borrow.Author.Tests.{lt-ltb}
+use lib.ListN.{length, getD, take, drop, length-drop}
+use lib.Seq.{length-take-le, take-suc, take-add, take-take, drop-drop, drop-at, getD-drop}
+use Rattle.rows.specs.Tables.{rowWords, firstRows}
+use Rattle.rows.proofs.FirstRows.{rows-length, row-at}
+use Rattle.writing.specs.Rows.{pageWordsOf, pageWordsAt, pageRowsIn}
+use Rattle.writing.specs.declared.PageWords.{PageWords}
+
+-- what is left of the front of a list
+drop-front : (a n : ℕ) (l : List ℕ) → a ≤ n → n ≤ length l → drop a (take n l) ≡ take (n - a) (drop a l)
+drop-front a n l few h =
+    let whole : n ≡ a + (n - a) = omega arith in
+    ap (λ (k : ℕ). drop a (take k l)) whole ∙ ap (drop a) (take-add a (n - a) l) ∙ drop-at (take a l) (take (n - a) (drop a l)) a (length-take-le a l (omega arith))
+
+module _ (table : List ℕ) (i e : ℕ) (some : i ≤ e) (inside : e ≤ length table / 5) where
+  abbrev part : List ℕ
+  part = take (5 * e - 5 * i) (drop (5 * i) table)
+
+  part-long : length part ≡ 5 * e - 5 * i
+  part-long = length-take-le (5 * e - 5 * i) (drop (5 * i) table) (omega (arith, length-drop (5 * i) table))
+
+  its-words : (j : ℕ) → j < e - i → rowWords 5 part j ≡ rowWords 5 table (i + j)
+  unfolding rowWords
+  its-words j h =
+      let long = part-long in
+      let rest = length-drop (5 * i) table in
+      let place : 5 * i + 5 * j ≡ 5 * (i + j) = omega arith in
+      rw (lt-ltb j (length part / 5) (omega arith), lt-ltb (i + j) (length table / 5) (omega arith))
+      (ap (take 5) (drop-front (5 * j) (5 * e - 5 * i) (drop (5 * i) table) (omega arith) (omega arith))
+      ∙ take-take 5 (5 * e - 5 * i - 5 * j) (drop (5 * j) (drop (5 * i) table)) (omega arith)
+      ∙ ap (take 5) (drop-drop (5 * j) (5 * i) table ∙ ap (λ (k : ℕ). drop k table) place))
+
+  some-rows : (k : ℕ) → k ≤ e - i → firstRows pageWordsAt part k ≡ take k (drop i (pageRowsIn table))
+  unfolding firstRows
+  some-rows zero h = refl
+  some-rows (suc k) h =
+      let rows = pageRowsIn table in
+      let many = rows-length pageWordsAt table (length table / 5) in
+      let d = pageWordsAt table 0 in
+      let same : pageWordsAt part k ≡ getD (drop i rows) k d = ap pageWordsOf (its-words k (omega arith)) ∙ sym (getD-drop i rows k d ∙ row-at pageWordsAt table (length table / 5) (i + k) d (omega arith)) in
+      (λ j. some-rows k (omega arith) j ++ (same j ∷ [])) ∙ sym (take-suc (drop i rows) k d (omega (arith, length-drop i rows)))
+
+  -- the rows from i on, up to e
+  pub part-rows : pageRowsIn part ≡ take (e - i) (drop i (pageRowsIn table))
+  part-rows =
+      let long = part-long in
+      let count : length part / 5 ≡ e - i = omega arith in
+      ap (firstRows pageWordsAt part) count ∙ some-rows (e - i) (omega arith)
