@@ -207,7 +207,7 @@ def page_list_of(header, entries, file_length, pages):
     return content
 
 
-# The cases. Each lent byte is EE and each lent word 9 before the call. The result, the lent bytes (their checksum where they are many) and, where
+# The cases. Each lent byte is EE and each lent word 9 before the call. The result, the lent bytes (checksums of them where they are many) and, where
 # the envelope is written, what its reader leaves in tables of as many words as the call was lent are printed.
 
 SHOWN_BYTES, SHOWN_WORDS, READ_WORDS = 128, 128, 8192
@@ -248,7 +248,9 @@ def printed(code, written, room, result_words):
     line += table(result_words, (len(written),) if result_words else ())
     if room <= SHOWN_BYTES:
         return line + page_bytes(room, written)
-    return line + f" {zlib.crc32(written + bytes([0xEE]) * (room - len(written))):08x}"
+    # Of an envelope with its own checksum the checksum is always the same.
+    front, rest = written[:-4], written[-4:] + b"\xee" * (room - len(written))
+    return line + f" {zlib.crc32(front):08x} {zlib.crc32(rest):08x}"
 
 
 def table_shown(lent, rows):

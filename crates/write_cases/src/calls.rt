@@ -47,7 +47,7 @@ const FIRST_PART: usize = 14;
 // Where the strings or the header start.
 const PARTS: usize = 120;
 
-// Of more bytes the checksum is shown, and more words are not.
+// Of more bytes checksums are shown, and more words are not.
 const SHOWN_BYTES: usize = 128;
 
 const SHOWN_WORDS: usize = 128;
@@ -73,14 +73,16 @@ fn call_with(case: [u64; 15], first: &[u8], bytes: &[u8]) {
     let words = cases::fit(case[RESULT], &nines);
     let result = &mut nines[..words];
     let code = write(case, first, bytes, out, result);
-    let written = cases::show_answer(code, &[], 0);
+    let accepted = cases::show_answer(code, &[], 0);
     cases::show_words(result);
-    show_out(out);
-    if written {
-        read_back(case, first, reader::text_of(out, 0, first_word(result)));
+    let written = first_word(result);
+    show_out(out, written);
+    if accepted {
+        read_back(case, first, reader::text_of(out, 0, written));
     }
 }
 
+// How many bytes were written: none where there is no result.
 fn first_word(result: &[u64]) -> usize {
     if result.len() == 0 {
         return 0;
@@ -88,13 +90,21 @@ fn first_word(result: &[u64]) -> usize {
     result[0] as usize
 }
 
-fn show_out(out: &[u8]) {
-    if SHOWN_BYTES < out.len() {
-        io::write_all(STDOUT_FILENO, b" ");
-        io::print_hex(STDOUT_FILENO, exports::rnt_crc32(out) as u64, 8);
-    } else {
+// Of an envelope with its own checksum the checksum is always the same, so that one is shown of what stands before it, and one of the rest.
+fn show_out(out: &[u8], written: usize) {
+    if out.len() <= SHOWN_BYTES {
         cases::show_bytes(out);
+        return;
     }
+    let front = if written < 4 { 0 } else { written - 4 };
+    show_checksum(reader::text_of(out, 0, front));
+    let rest = std::num::wrapping_sub_usize(out.len(), front);
+    show_checksum(reader::text_of(out, front, rest));
+}
+
+fn show_checksum(bytes: &[u8]) {
+    io::write_all(STDOUT_FILENO, b" ");
+    io::print_hex(STDOUT_FILENO, exports::rnt_crc32(bytes) as u64, 8);
 }
 
 fn write(case: [u64; 15], first: &[u8], bytes: &[u8], out: &mut [u8], result: &mut [u64]) -> u32 {
