@@ -1,6 +1,6 @@
 -- The pages of each column, one column after the other.
 use Prim.Native.Nat.{ℕ, _+_, _*_, _-_, _%_, _^_, _≤_, _<_}
-use mathlib.Core.List.{List, [], _∷_, _++_, map}
+use mathlib.Core.List.{List, [], _∷_, map}
 use mathlib.Core.Bool.{true}
 use mathlib.Core.Path.{_≡_, refl, sym, ap, subst, _∙_}
 use native.Mathlib.Numerals.{add-one}
@@ -15,10 +15,9 @@ use Rattle.rows.proofs.TableLaws.{Holds, holds-none, holds-set, flat-one}
 use Rattle.pages.specs.Pages.{runningTotal}
 use Rattle.column_pages.specs.Answers.{bitsIn}
 use Rattle.column_pages.proofs.ColumnLaws.{bits-at}
-use Rattle.writing.specs.Piece.{Piece, listPiece, pieces}
+use Rattle.writing.specs.Piece.{listPiece, pieces}
 use Rattle.writing.specs.Rows.{pageRowsIn}
 use Rattle.writing.specs.PageList.{byColumn, inColumnOrder, pageItem, columnPagesItem}
-use Rattle.writing.specs.declared.PageWords.{PageWords}
 use Rattle.writing.proofs.Items.{item, Passed, passed-none, passed-more, passed-refused, passed-all}
 use Rattle.page_list_check.specs.Runs.{leading, columnAt}
 use Rattle.page_list_check.specs.Checks.{elementsIn, Summed, AllSummed}

@@ -1,8 +1,8 @@
 -- The loops over the rows of a table of pages that look at their columns.
 use Prim.Native.Nat.{ℕ, suc, _+_, _/_, _≤_, _<_}
 use mathlib.Core.List.{List, [], _∷_}
-use mathlib.Core.Bool.{Bool, true, false}
-use mathlib.Core.Path.{_≡_, refl, sym, ap, subst, _∙_}
+use mathlib.Core.Bool.{true, false}
+use mathlib.Core.Path.{_≡_, refl, sym, ap, _∙_}
 use native.Mathlib.Numerals.{add-one}
 use native.Mathlib.Omega.{arith}
 use lib.Dec.{ltb, leb, eqb}
@@ -13,7 +13,6 @@ use Rattle.numbers.specs.Choice.{pick, both}
 use Rattle.rows.proofs.FirstRows.{rows-length, row-at}
 use Rattle.writing.specs.Rows.{pageWordsAt, pageRowsIn}
 use Rattle.writing.specs.PageList.{inColumnOrder}
-use Rattle.writing.specs.declared.PageWords.{PageWords}
 use Rattle.page_list_check.specs.Runs.{leading}
 
 module _ (table : List ℕ) where

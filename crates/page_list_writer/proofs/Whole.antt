@@ -1,7 +1,7 @@
 -- What is answered about a page list.
 use Prim.Native.Nat.{ℕ, _+_, _*_, _/_, _≤_, _<_}
 use mathlib.Core.List.{List}
-use mathlib.Core.Bool.{Bool, true, false}
+use mathlib.Core.Bool.{true}
 use mathlib.Core.Path.{_≡_, refl, sym, ap, subst, _∙_}
 use native.Mathlib.Omega.{arith}
 use lib.ListN.{length}
@@ -9,7 +9,7 @@ use lib.Dec.{leb}
 use Rattle.wire.specs.Reading.{unless}
 use Rattle.wire.proofs.Laws.{passed}
 use Rattle.envelope.specs.Envelope.{ceiling}
-use Rattle.header.specs.Header.{Lists, Header}
+use Rattle.header.specs.Header.{Header}
 use Rattle.header.specs.Beside.{read}
 use Rattle.rows.specs.Tables.{columnRow}
 use Rattle.rows.proofs.FirstRows.{rows-length}

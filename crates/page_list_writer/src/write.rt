@@ -5,7 +5,6 @@ ghost use mathlib.Core.Path.{_≡_};
 ghost use mathlib.Core.Bool.{true};
 ghost use mathlib.Core.List.{List, []};
 ghost use Prim.Native.Nat.{ℕ, _≤_};
-ghost use lib.ListN.{length};
 ghost use Rattle.pages.specs.Pages.{runningTotal};
 ghost use Rattle.stores.specs.Stored.{Stored};
 ghost use Rattle.stores.proofs.Answers.{Stands};
