@@ -1,6 +1,6 @@
 /*
- * Reading of RNTuple headers, footers and page lists, and decoding and
- * encoding of pages. All memory is lent by the caller; nothing is kept
+ * Reading and writing of RNTuple headers, footers and page lists, and decoding
+ * and encoding of pages. All memory is lent by the caller; nothing is kept
  * between calls.
  *
  * Every pointer is followed by its number of elements (bytes for uint8_t,
@@ -40,7 +40,7 @@
  *   22  page checksum differs
  *   23  column type unknown, or Switch
  *   24  unused bits of a Bit page set
- *   25  element to encode does not fit its width
+ *   25  element to encode, or number to write, does not fit its width
  *   26  page list has another checksum than its cluster's row
  *
  * Results. A call with result words writes all of them: the values named at
@@ -182,6 +182,92 @@ uint32_t rnt_read_paired_page_list(const uint8_t *header, size_t header_length,
                                    uint64_t file_length,
                                    uint64_t *pages, size_t page_words,
                                    uint64_t *result, size_t result_words);
+
+/*
+ * The three calls below write an envelope from its tables, whose rows are
+ * those that its reader fills: version 1, minimum 1, one feature word, which
+ * is 0 (a page list has none), and no byte that no rule explains. What is
+ * written is accepted by the reader with the same other arguments and room
+ * enough for the rows, and gives the tables back, strings by their
+ * characters. Two words of a field row are not written: the dark mark, which
+ * the reader sets by its rule, and the repetition without flag 0x01, which it
+ * reads as 0. Words left over after a table's last row are ignored.
+ *
+ * Tables that break a rule get the number that their bytes would get. Besides,
+ * a string that is not inside the lent strings is 7, and a number that is too
+ * wide for its place is 25, before any other rule on it. Order: first the
+ * refusals of the header, where one is lent (envelope 1); then those that are
+ * named at the call; then the payload front to back, each where its bytes
+ * would stand, a count above a ceiling (10) before the rows; last 20, where
+ * the envelope is longer than the lent bytes.
+ *
+ * The envelope is written to the first bytes of out; the bytes after it are
+ * left alone. A refusal changes no byte of out.
+ *
+ * Result, 1 word: bytes written, the checksum included.
+ */
+
+/*
+ * Writes a header. The strings are lent in any order and may share bytes; a
+ * row has place and length of each, as the arguments have those of the name
+ * and the description. A string is inside when place plus length, without
+ * wrapping, is at most strings_length, also where it is empty. The strings may
+ * be an envelope that was read, with the places that its reader gave.
+ *
+ * Refusals have envelope 1: first 1, by the length that the envelope would
+ * have with the string lengths as given and with eight bytes of repetition
+ * wherever bit 0 of the flags is set; then the payload, each string 7 before
+ * 9; then 15; last 20.
+ *
+ * Places, in bits: field version, type version and parent 32; role and flags
+ * 16; a column's type and bits 16, its field and flags 32; both numbers of an
+ * alias 32.
+ */
+uint32_t rnt_write_header(const uint8_t *strings, size_t strings_length,
+                          uint64_t name_place, uint64_t name_length,
+                          uint64_t description_place,
+                          uint64_t description_length,
+                          const uint64_t *fields, size_t field_words,
+                          const uint64_t *columns, size_t column_words,
+                          const uint64_t *aliases, size_t alias_words,
+                          uint8_t *out, size_t out_length,
+                          uint64_t *result, size_t result_words);
+
+/*
+ * Writes a footer of the header, for a file of the given length: version 2,
+ * minimum 1, where there are clusters and each has its page list's checksum;
+ * version 1 where none has. RNT_NO_CHECKSUM alone says that a row has none.
+ *
+ * Refusals have envelope 1 where the header is refused, else 2: first 19,
+ * where some rows have a checksum and others have none; then 1, by the length
+ * that the envelope would have; then the payload; last 20.
+ *
+ * Places, in bits: entry count 60, size of a link 31, checksum 32.
+ */
+uint32_t rnt_write_footer(const uint8_t *header, size_t header_length,
+                          uint64_t file_length,
+                          const uint64_t *clusters, size_t cluster_words,
+                          const uint64_t *metadata, size_t metadata_words,
+                          uint8_t *out, size_t out_length,
+                          uint64_t *result, size_t result_words);
+
+/*
+ * Writes the page list of a cluster with the given number of entries, under
+ * its header, for a file of the given length. Rows stand in the order of their
+ * columns.
+ *
+ * Refusals have envelope 1 where the header is refused, else 3: first 1, by
+ * the length that the envelope would have, 16 bytes for each row whatever its
+ * column; then 14, where a row names no column or a lower one than the row
+ * before it; then the payload; then 19 for the totals; last 20.
+ *
+ * Places, in bits: elements 30, whether a checksum follows 1, size 31.
+ */
+uint32_t rnt_write_page_list(const uint8_t *header, size_t header_length,
+                             uint64_t entries, uint64_t file_length,
+                             const uint64_t *pages, size_t page_words,
+                             uint8_t *out, size_t out_length,
+                             uint64_t *result, size_t result_words);
 
 /*
  * Decodes a page into words[start] and the words after it, one word for each

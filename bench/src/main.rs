@@ -1,6 +1,10 @@
 //! The library beside the fastest of zlib, plain C, plain Rust, Rust's standard
-//! library and the independent reader, and beside memcpy of what it writes.
+//! library and the independent reader and writers, and beside memcpy of what it
+//! writes.
 
+mod writers;
+
+use differential::calls::{FooterTables, HeaderTables, PageListTable};
 use differential::generate::random::Random;
 use differential::reference::footer::{CLUSTER_WORDS, LINK_WORDS};
 use differential::reference::header::{ALIAS_WORDS, COLUMN_WORDS, FIELD_WORDS};
@@ -494,9 +498,12 @@ fn largest_footer(random: &mut Random, header: &[u8], version: u16) -> Vec<u8> {
     writer.bytes
 }
 
+/// Ranges are inside a file of this length.
+const FILE_LENGTH: u64 = 1 << 40;
+
 fn footers(random: &mut Random) {
     let header = smallest_header();
-    let file_length = 1 << 40;
+    let file_length = FILE_LENGTH;
     for (name, version) in [("read footer, largest", 1), ("the same, version 2", 2)] {
         let footer = largest_footer(random, &header, version);
         let mut tables = (vec![0; 1_024 * CLUSTER_WORDS], vec![0; 64 * LINK_WORDS], [0; 2]);
@@ -520,7 +527,11 @@ fn footers(random: &mut Random) {
     }
 }
 
-fn page_lists(random: &mut Random) {
+/// So many entries the cluster of the largest page list has.
+const ENTRIES: u64 = 256 * 10_000;
+
+/// A header of 64 columns, and a page list at its ceiling.
+fn largest_page_list(random: &mut Random) -> (Vec<u8>, Vec<u8>) {
     let mut writer = Writer::default();
     let mut header = writer::Header::default();
     header.fields.items = (0..64)
@@ -539,7 +550,6 @@ fn page_lists(random: &mut Random) {
         .collect();
     writer.header(&header);
     let header = std::mem::take(&mut writer.bytes);
-    let file_length = 1 << 40;
     let page = writer::Page {
         elements: 10_000,
         checksum: true,
@@ -558,8 +568,13 @@ fn page_lists(random: &mut Random) {
     let mut list = writer::PageList::default();
     list.columns.items = (0..64).map(|_| pages()).collect();
     writer.page_list(&list);
-    let list = writer.bytes;
-    let entries = 256 * 10_000;
+    (header, writer.bytes)
+}
+
+fn page_lists(random: &mut Random) {
+    let (header, list) = largest_page_list(random);
+    let file_length = FILE_LENGTH;
+    let entries = ENTRIES;
     let bytes = header.len() + list.len();
     let words = 16_384 * PAGE_WORDS;
     let mut tables = (vec![0; words], [0; 1]);
@@ -598,6 +613,116 @@ fn page_lists(random: &mut Random) {
     }
 }
 
+/// The lent bytes and the result of a writer.
+type Written = (Vec<u8>, [u64; 1]);
+
+/// The three ways of writing: the library's call, one that checks and then
+/// writes, and the reference's, which makes the envelope elsewhere and copies it.
+type Library<'a> = &'a dyn Fn(&mut [u8], &mut [u64]) -> u32;
+type Twice<'a> = &'a dyn Fn(&mut [u8]) -> Result<usize, u32>;
+type Draft<'a> = &'a dyn Fn(&mut [u8]) -> (u32, [u64; 1]);
+
+/// A line for a writer, which is lent as many bytes as the envelope has and has
+/// to write that very envelope. It reads so many bytes besides.
+fn written(name: &str, envelope: &[u8], read: usize, library: Library, twice: Twice, draft: Draft) {
+    let mut lent: Written = (vec![0; envelope.len()], [0; 1]);
+    let times = contest(
+        &mut lent,
+        &|(out, result)| assert_eq!(library(out, result), 0),
+        &[
+            ("Rust", &|(out, result)| {
+                *result = [twice(out).expect("an envelope") as u64];
+            }),
+            ("Rust draft", &|(out, result)| {
+                let (answer, words) = draft(out);
+                assert_eq!(answer, 0);
+                *result = words;
+            }),
+        ],
+        envelope.len(),
+    );
+    assert!(lent.0 == envelope && lent.1 == [envelope.len() as u64]);
+    line(name, gigabytes(read + envelope.len(), times.ours), &times, true);
+}
+
+fn written_header(name: &str, envelope: &[u8]) {
+    let (mut fields, mut columns, mut aliases) = (vec![0; 512 * 15], vec![0; 1_024 * 4], vec![0; 256 * 2]);
+    let (answer, words) = reference::read_header(envelope, &mut fields, &mut columns, &mut aliases);
+    assert_eq!(answer, 0);
+    let tables = HeaderTables {
+        strings: envelope,
+        texts: [words[0], words[1], words[2], words[3]],
+        fields: &fields[..words[4] as usize * FIELD_WORDS],
+        columns: &columns[..words[5] as usize * COLUMN_WORDS],
+        aliases: &aliases[..words[6] as usize * ALIAS_WORDS],
+    };
+    let HeaderTables {
+        strings,
+        texts,
+        fields,
+        columns,
+        aliases,
+    } = tables;
+    written(
+        name,
+        envelope,
+        0,
+        &|out, result| calls::write_header(black_box(tables), out, result),
+        &|out| writers::header(black_box(tables), out),
+        &|out| reference::write_header(black_box(strings), texts, fields, columns, aliases, out),
+    );
+}
+
+fn written_footer(name: &str, header: &[u8], envelope: &[u8]) {
+    let (mut clusters, mut metadata) = (vec![0; 1_024 * CLUSTER_WORDS], vec![0; 64 * LINK_WORDS]);
+    let (answer, _) = reference::read_footer(header, envelope, FILE_LENGTH, &mut clusters, &mut metadata);
+    assert_eq!(answer, 0);
+    let tables = FooterTables {
+        header,
+        file_length: FILE_LENGTH,
+        clusters: &clusters,
+        metadata: &metadata,
+    };
+    written(
+        name,
+        envelope,
+        header.len(),
+        &|out, result| calls::write_footer(black_box(tables), out, result),
+        &|out| writers::footer(black_box(tables), out),
+        &|out| reference::write_footer(black_box(header), FILE_LENGTH, &clusters, &metadata, out),
+    );
+}
+
+fn written_page_list(name: &str, header: &[u8], envelope: &[u8]) {
+    let mut pages = vec![0; 16_384 * PAGE_WORDS];
+    let (answer, _) = reference::read_page_list(header, envelope, ENTRIES, FILE_LENGTH, &mut pages);
+    assert_eq!(answer, 0);
+    let table = PageListTable {
+        header,
+        entries: ENTRIES,
+        file_length: FILE_LENGTH,
+        pages: &pages,
+    };
+    written(
+        name,
+        envelope,
+        header.len(),
+        &|out, result| calls::write_page_list(black_box(table), out, result),
+        &|out| writers::page_list(black_box(table), out),
+        &|out| reference::write_page_list(black_box(header), ENTRIES, FILE_LENGTH, &pages, out),
+    );
+}
+
+fn written_envelopes(random: &mut Random) {
+    written_header("write header, largest", &largest_header(random, text));
+    written_header("the same in Cyrillic", &largest_header(random, cyrillic));
+    let header = smallest_header();
+    written_footer("write footer, largest", &header, &largest_footer(random, &header, 1));
+    written_footer("the same, version 2", &header, &largest_footer(random, &header, 2));
+    let (header, list) = largest_page_list(random);
+    written_page_list("write page list, largest", &header, &list);
+}
+
 fn main() -> ExitCode {
     if !calls::LINKED {
         eprintln!("nothing to measure: built with RNT_LIB=none, without the library");
@@ -615,9 +740,13 @@ fn main() -> ExitCode {
         "library writes, which is about the limit; it reads as many, a decoder of narrow elements fewer. Pages have"
     );
     println!("{ELEMENTS} elements and no checksum.");
-    println!("A reader's bytes are those of all envelopes it reads.");
+    println!("A reader's bytes are those of all envelopes it reads, a writer's those it reads and writes.");
     println!("For moves the others are to read the header, by the library (\"read, walk\") or by the independent reader, and to");
     println!("walk each field's chain: 130,816 moves for a chain of 512.");
+    println!("For writers the others check all rules in one pass and write in a second (\"Rust\"), or make the envelope elsewhere and");
+    println!(
+        "copy it (\"Rust draft\", the independent writer); all write the same bytes, those that are lent and no more."
+    );
     println!();
     println!("{:<26} {:>16} {:>10}", "", "", "fastest");
     println!(
@@ -632,5 +761,6 @@ fn main() -> ExitCode {
     footers(&mut random);
     page_lists(&mut random);
     moves(&mut random);
+    written_envelopes(&mut random);
     ExitCode::SUCCESS
 }

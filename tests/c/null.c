@@ -1,5 +1,5 @@
-/* Null pointers with count 0: every call takes them wherever nothing need be read or written; moves along chains; and the constants
-   of the header. */
+/* Null pointers with count 0: every call takes them wherever nothing need be read or written; moves along chains; envelopes written
+   and read back; and the constants of the header. */
 #include "rntuple_check.h"
 #include <stdio.h>
 #include <string.h>
@@ -169,6 +169,231 @@ static void paired_page_lists(void) {
     same("pairing without a result", rnt_read_paired_page_list(NULL, 0, NULL, 0, 0, 0, 0, NULL, 0, NULL, 0), RNT_RESULT_TOO_SHORT);
 }
 
+/* The bytes that are lent to a writer; what it does not write stays. */
+#define OUT_BYTES 512
+#define OUT_OLD 0xA5
+
+static uint8_t out[OUT_BYTES];
+
+static void clear_out(void) { memset(out, OUT_OLD, sizeof out); }
+
+/* Whether all bytes from this one on are as they were. */
+static int kept(size_t from) {
+    for (size_t i = from; i < sizeof out; i++)
+        if (out[i] != OUT_OLD) return 0;
+    return 1;
+}
+
+/* A call that writes into the first so many bytes of out, with so many result words. */
+typedef uint32_t (*writer)(size_t out_length, uint64_t *result, size_t result_words);
+
+/* What is due of a writer: an envelope, or an answer, for rooms from none to more than enough and for results of any length. */
+static void written(const char *name, writer write, const uint8_t *envelope, size_t length, uint32_t answer, uint32_t short_of_room) {
+    uint64_t result[3];
+    const size_t rooms[] = {0, 1, length / 2, length ? length - 1 : 2, length, length + 1, sizeof out};
+    for (size_t i = 0; i < sizeof rooms / sizeof *rooms; i++) {
+        size_t room = rooms[i];
+        uint32_t due = answer != 0 ? answer : room < length ? short_of_room : 0;
+        for (size_t words = 0; words <= 3; words++) {
+            result[0] = result[1] = result[2] = 9;
+            clear_out();
+            same(name, write(room, result, words), words == 0 ? RNT_RESULT_TOO_SHORT : due);
+            int accepted = words > 0 && due == 0;
+            same("written bytes", result[0], words == 0 ? 9 : accepted ? length : 0);
+            same("words behind the result", result[1] + result[2], 18);
+            if (accepted) same("the envelope", memcmp(out, envelope, length), 0);
+            same("bytes that are not written", kept(accepted ? length : 0), 1);
+        }
+    }
+}
+
+/* The calls with nothing lent but the header. */
+static uint32_t no_header_tables(size_t out_length, uint64_t *result, size_t result_words) {
+    return rnt_write_header(NULL, 0, 0, 0, 0, 0, NULL, 0, NULL, 0, NULL, 0, out_length ? out : NULL, out_length, result, result_words);
+}
+
+static uint32_t no_footer_tables(size_t out_length, uint64_t *result, size_t result_words) {
+    return rnt_write_footer(header, sizeof header, 0, NULL, 0, NULL, 0, out_length ? out : NULL, out_length, result, result_words);
+}
+
+static uint32_t no_pages(size_t out_length, uint64_t *result, size_t result_words) {
+    return rnt_write_page_list(header, sizeof header, 0, 0, NULL, 0, out_length ? out : NULL, out_length, result, result_words);
+}
+
+static uint32_t footer_of_nothing(size_t out_length, uint64_t *result, size_t result_words) {
+    return rnt_write_footer(NULL, 0, 0, NULL, 0, NULL, 0, out, out_length, result, result_words);
+}
+
+static uint32_t page_list_of_nothing(size_t out_length, uint64_t *result, size_t result_words) {
+    return rnt_write_page_list(NULL, 0, 0, 0, NULL, 0, out, out_length, result, result_words);
+}
+
+/* A header of two fields, two columns and an alias; words behind the last row are no row. */
+static const uint8_t strings[] = "pxs";
+static uint64_t texts[4] = {0, 2, 2, 1};
+static uint64_t fields[2 * RNT_FIELD_WORDS + 14] = {
+    1, 2, 0, 0, 0, 9, 0, 1, 1, 1, 3, 0, 0, 3, 1, /* its repetition and its dark mark are not written */
+    3, 4, 0, 1, 3, 7, 2, 1, 1, 1, 0, 0, 3, 0, 0,
+};
+static uint64_t columns[2 * RNT_COLUMN_WORDS + 3] = {6, 1, 0, 0, 0x14, 32, 1, 7};
+static uint64_t aliases[RNT_ALIAS_WORDS + 1] = {0, 1};
+
+static uint32_t full_header(size_t out_length, uint64_t *result, size_t result_words) {
+    return rnt_write_header(strings, 3, texts[0], texts[1], texts[2], texts[3], fields, sizeof fields / 8, columns, sizeof columns / 8,
+                            aliases, sizeof aliases / 8, out, out_length, result, result_words);
+}
+
+static uint64_t clusters[2 * RNT_CLUSTER_WORDS + 4] = {0, 5, 10, 90, 0xFFFFFFFF, 5, 6, 0, 100, 0};
+static uint64_t links[RNT_LINK_WORDS + 1] = {100, 0};
+
+static uint32_t full_footer(size_t out_length, uint64_t *result, size_t result_words) {
+    return rnt_write_footer(header, sizeof header, 100, clusters, sizeof clusters / 8, links, sizeof links / 8, out, out_length, result,
+                            result_words);
+}
+
+/* Under the full header: Bit pages, whose elements are the entries, and 32 bits. */
+static uint8_t full[256];
+static size_t full_length;
+static uint64_t page_rows[3 * RNT_PAGE_WORDS + 4] = {0, 9, 1, 2, 94, 0, 1, 0, 1, 99, 1, 2, 0, 8, 92};
+
+static uint32_t full_page_list(size_t out_length, uint64_t *result, size_t result_words) {
+    return rnt_write_page_list(full, full_length, 10, 100, page_rows, sizeof page_rows / 8, out, out_length, result, result_words);
+}
+
+/* One number of a table replaced: the answer, with no room and with room; nothing is written. */
+static void replaced(const char *name, writer write, uint64_t *number, uint64_t wrong, uint32_t due) {
+    uint64_t old = *number, result[1] = {9};
+    *number = wrong;
+    for (size_t room = 0; room <= sizeof out; room += sizeof out) {
+        clear_out();
+        result[0] = 9;
+        same(name, write(room, result, 1), due);
+        same("result of a refused table", result[0], 0);
+        same("bytes of a refused table", kept(0), 1);
+    }
+    *number = old;
+}
+
+static void written_headers(void) {
+    uint64_t result[7], read_fields[2 * RNT_FIELD_WORDS], read_columns[2 * RNT_COLUMN_WORDS], read_aliases[RNT_ALIAS_WORDS];
+    clear_out();
+    same("writing a header", full_header(sizeof out, result, 1), 0);
+    full_length = (size_t)result[0];
+    same("bytes of the header", full_length, 48 + 2 * 36 + 8 + 2 * 16 + 12 + 10);
+    memcpy(full, out, full_length);
+    same("reading it back", rnt_read_header(full, full_length, read_fields, 30, read_columns, 8, read_aliases, 2, result, 7), 0);
+    same("its fields", result[4], 2);
+    same("its columns", result[5], 2);
+    same("its aliases", result[6], 1);
+    same("its name", memcmp(full + result[0], "px", 2) | (result[1] != 2), 0);
+    same("its description", memcmp(full + result[2], "s", 1) | (result[3] != 1), 0);
+    for (int row = 0; row < 2; row++) {
+        const uint64_t *given = fields + 15 * row, *read = read_fields + 15 * row;
+        for (int i = 0; i < 5; i++) same("a number of a field", read[i], given[i]);
+        same("a repetition", read[5], given[4] & 1 ? given[5] : 0);
+        for (int i = 6; i < 14; i += 2) {
+            same("the length of a string", read[i + 1], given[i + 1]);
+            same("a string", memcmp(full + read[i], strings + given[i], given[i + 1]), 0);
+        }
+        same("a dark mark", read[14], 0);
+    }
+    same("its columns' rows", memcmp(columns, read_columns, sizeof read_columns), 0);
+    same("its alias's row", memcmp(aliases, read_aliases, sizeof read_aliases), 0);
+    written("a header", full_header, full, full_length, 0, 256 + 20);
+
+    replaced("too long", full_header, texts + 1, RNT_MOST_FIELDS * 2048, 256 + 1);
+    replaced("a length near 2^64", full_header, texts + 1, UINT64_MAX - 100, 256 + 1);
+    replaced("a string outside", full_header, texts, 2, 256 + 7);
+    replaced("a string far outside", full_header, fields + 6, UINT64_MAX, 256 + 7);
+    replaced("an empty string outside", full_header, fields + 10, 4, 256 + 7);
+    replaced("a version of 33 bits", full_header, fields, UINT64_C(1) << 32, 256 + 25);
+    replaced("a parent that is no field", full_header, fields + 2, 2, 256 + 14);
+    replaced("a parent of 33 bits", full_header, fields + 2, UINT64_C(1) << 32, 256 + 25);
+    replaced("a role that is none", full_header, fields + 3, 5, 256 + 12);
+    replaced("a role of 17 bits", full_header, fields + 3, 65536, 256 + 25);
+    replaced("flags that are none", full_header, fields + 4, 4, 256 + 12);
+    replaced("flags of 64 bits", full_header, fields + 4, UINT64_MAX, 256 + 25);
+    replaced("other bits", full_header, columns + 1, 2, 256 + 13);
+    replaced("a column of no field", full_header, columns + 2, 2, 256 + 14);
+    replaced("column flags that are none", full_header, columns + 3, 8, 256 + 12);
+    replaced("an alias of no column", full_header, aliases, 2, 256 + 14);
+    replaced("an alias to a field without its flag", full_header, aliases + 1, 0, 256 + 14);
+    replaced("an alias of 33 bits", full_header, aliases + 1, UINT64_C(1) << 32, 256 + 25);
+    replaced("a circle", full_header, fields + 2, 1, 256 + 15);
+}
+
+static void written_footers(void) {
+    uint64_t result[2], read_clusters[2 * RNT_CLUSTER_WORDS], read_links[RNT_LINK_WORDS];
+    uint8_t own[256];
+    clear_out();
+    same("writing a footer", full_footer(sizeof out, result, 1), 0);
+    size_t length = (size_t)result[0];
+    same("bytes of the footer", length, 52 + 2 * 40 + 16);
+    memcpy(own, out, length);
+    same("its version", own[0], 2);
+    same("its minimum", own[2], 1);
+    same("reading it back", rnt_read_footer(header, sizeof header, own, length, 100, read_clusters, 10, read_links, 2, result, 2), 0);
+    same("its clusters", memcmp(clusters, read_clusters, sizeof read_clusters) | (result[0] != 2), 0);
+    same("its links", memcmp(links, read_links, sizeof read_links) | (result[1] != 1), 0);
+    written("a footer", full_footer, own, length, 0, 512 + 20);
+
+    replaced("mixed rows", full_footer, clusters + 4, RNT_NO_CHECKSUM, 512 + 19);
+    replaced("a checksum of 33 bits", full_footer, clusters + 9, RNT_NO_CHECKSUM + 1, 512 + 25);
+    replaced("a first entry that is none", full_footer, clusters + 5, 4, 512 + 19);
+    replaced("an entry count of 61 bits", full_footer, clusters + 6, UINT64_C(1) << 60, 512 + 25);
+    replaced("entries past their end", full_footer, clusters + 6, (UINT64_C(1) << 60) - 5, 512 + 19);
+    replaced("a size of 32 bits", full_footer, clusters + 2, UINT64_C(1) << 31, 512 + 25);
+    replaced("a range outside", full_footer, clusters + 3, 91, 512 + 18);
+    replaced("a range that wraps", full_footer, links + 1, UINT64_MAX, 512 + 18);
+    clusters[4] = clusters[9] = RNT_NO_CHECKSUM;
+    clear_out();
+    same("writing a footer without checksums", full_footer(sizeof out, result, 1), 0);
+    same("bytes of a footer without checksums", result[0], 52 + 2 * 36 + 16);
+    same("version of a footer without checksums", out[0], 1);
+    replaced("mixed rows", full_footer, clusters + 9, 0, 512 + 19);
+    replaced("mixed rows, one no checksum", full_footer, clusters + 9, UINT64_MAX, 512 + 19);
+}
+
+static void written_page_lists(void) {
+    uint64_t result[1], read_rows[3 * RNT_PAGE_WORDS];
+    uint8_t own[256];
+    clear_out();
+    same("writing a page list", full_page_list(sizeof out, result, 1), 0);
+    size_t length = (size_t)result[0];
+    same("bytes of the page list", length, 16 + 2 * 8 + 3 * 16);
+    memcpy(own, out, length);
+    same("reading it back", rnt_read_page_list(full, full_length, own, length, 10, 100, read_rows, 15, result, 1), 0);
+    same("its pages", memcmp(page_rows, read_rows, sizeof read_rows) | (result[0] != 3), 0);
+    written("a page list", full_page_list, own, length, 0, 768 + 20);
+
+    replaced("rows out of order", full_page_list, page_rows, 1, 768 + 14);
+    replaced("a row of no column", full_page_list, page_rows + 10, 2, 768 + 14);
+    replaced("a column of 33 bits", full_page_list, page_rows + 10, (UINT64_C(1) << 32) + 1, 768 + 14);
+    replaced("elements of 31 bits", full_page_list, page_rows + 1, UINT64_C(1) << 30, 768 + 25);
+    replaced("bit 30 of 2 bits", full_page_list, page_rows + 2, 2, 768 + 25);
+    replaced("a size of 32 bits", full_page_list, page_rows + 3, UINT64_C(1) << 31, 768 + 25);
+    replaced("another size", full_page_list, page_rows + 3, 3, 768 + 17);
+    replaced("check bytes outside", full_page_list, page_rows + 4, 95, 768 + 18);
+    replaced("a page outside", full_page_list, page_rows + 14, 93, 768 + 18);
+    replaced("another total", full_page_list, page_rows + 6, 2, 768 + 19);
+}
+
+static void writers(void) {
+    uint64_t result[1];
+    written("the smallest header", no_header_tables, header, sizeof header, 0, 256 + 20);
+    written("the smallest footer", no_footer_tables, footer, sizeof footer, 0, 512 + 20);
+    written("the smallest page list", no_pages, page_list, sizeof page_list, 0, 768 + 20);
+    written("a footer of no header", footer_of_nothing, NULL, 0, 256 + 2, 0);
+    written("a page list of no header", page_list_of_nothing, NULL, 0, 256 + 2, 0);
+    same("writing a header without a result", rnt_write_header(NULL, 0, 1, 0, 0, 0, NULL, 0, NULL, 0, NULL, 0, NULL, 0, NULL, 0), RNT_RESULT_TOO_SHORT);
+    same("writing a footer without a result", rnt_write_footer(NULL, 0, 0, NULL, 0, NULL, 0, NULL, 0, NULL, 0), RNT_RESULT_TOO_SHORT);
+    same("writing a page list without a result", rnt_write_page_list(NULL, 0, 0, 0, NULL, 0, NULL, 0, NULL, 0), RNT_RESULT_TOO_SHORT);
+    same("an empty string of no strings", rnt_write_header(NULL, 0, 1, 0, 0, 0, NULL, 0, NULL, 0, NULL, 0, NULL, 0, result, 1), 256 + 7);
+    written_headers();
+    written_footers();
+    written_page_lists();
+}
+
 static void constants(void) {
     same("words of a cluster row", RNT_CLUSTER_WORDS, 5);
     same("no checksum", RNT_NO_CHECKSUM, (uint64_t)UINT32_MAX + 1);
@@ -199,6 +424,7 @@ int main(void) {
     footers();
     page_lists();
     paired_page_lists();
+    writers();
     pages();
     constants();
     printf("%d passed, %d failed\n", passed, failed);

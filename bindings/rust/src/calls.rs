@@ -56,6 +56,49 @@ mod c {
             result: *mut u64,
             result_words: usize,
         ) -> u32;
+        pub fn rnt_write_header(
+            strings: *const u8,
+            strings_length: usize,
+            name_place: u64,
+            name_length: u64,
+            description_place: u64,
+            description_length: u64,
+            fields: *const u64,
+            field_words: usize,
+            columns: *const u64,
+            column_words: usize,
+            aliases: *const u64,
+            alias_words: usize,
+            out: *mut u8,
+            out_length: usize,
+            result: *mut u64,
+            result_words: usize,
+        ) -> u32;
+        pub fn rnt_write_footer(
+            header: *const u8,
+            header_length: usize,
+            file_length: u64,
+            clusters: *const u64,
+            cluster_words: usize,
+            metadata: *const u64,
+            metadata_words: usize,
+            out: *mut u8,
+            out_length: usize,
+            result: *mut u64,
+            result_words: usize,
+        ) -> u32;
+        pub fn rnt_write_page_list(
+            header: *const u8,
+            header_length: usize,
+            entries: u64,
+            file_length: u64,
+            pages: *const u64,
+            page_words: usize,
+            out: *mut u8,
+            out_length: usize,
+            result: *mut u64,
+            result_words: usize,
+        ) -> u32;
         pub fn rnt_decode_page(
             column_type: u32,
             elements: u64,
@@ -91,11 +134,30 @@ fn accepted(answer: u32) -> Result<(), Refusal> {
     Refusal::of(answer).map_or(Ok(()), Err)
 }
 
+/// Where a string stands in the envelope that was read, or in the strings that
+/// are lent to be written.
+#[derive(Clone, Copy, Debug, Default, PartialEq, Eq)]
+pub struct Text {
+    /// The place of its first byte.
+    pub place: u64,
+    /// Its bytes.
+    pub length: u64,
+}
+
+/// The two texts of a header that belong to no field.
+#[derive(Clone, Copy, Debug, Default, PartialEq, Eq)]
+pub struct HeaderTexts {
+    pub name: Text,
+    pub description: Text,
+}
+
 /// An accepted header: its texts, and the rows that were read.
 #[derive(Clone, Copy, Debug)]
 pub struct Header<'a> {
     pub name: &'a str,
     pub description: &'a str,
+    /// Where these two stand in the envelope, as [`write_header`] takes them.
+    pub texts: HeaderTexts,
     pub fields: Table<'a, Field<'a>>,
     pub columns: Table<'a, Column>,
     pub aliases: Table<'a, Alias>,
@@ -124,9 +186,20 @@ pub fn read_header<'a>(
             result.len(),
         )
     })?;
+    let texts = HeaderTexts {
+        name: Text {
+            place: result[0],
+            length: result[1],
+        },
+        description: Text {
+            place: result[2],
+            length: result[3],
+        },
+    };
     Ok(Header {
-        name: text(envelope, result[0], result[1]),
-        description: text(envelope, result[2], result[3]),
+        name: text(envelope, texts.name),
+        description: text(envelope, texts.description),
+        texts,
         fields: Table::first(result[4], fields, envelope),
         columns: Table::first(result[5], columns, envelope),
         aliases: Table::first(result[6], aliases, envelope),
@@ -264,6 +337,135 @@ pub fn read_paired_page_list<'a>(
     Ok(PageList {
         pages: Table::first(result[0], pages, &[]),
     })
+}
+
+/// Writes a header from tables as [`read_header`] leaves them, rows of 15, 4 and
+/// 2 words, into the first bytes of `out`, and gives the bytes written. The
+/// strings of the rows and of `texts` stand in `strings`, anywhere and in any
+/// order; an envelope that was read will do, with the places that were read.
+/// [`new_header`](crate::new_header) takes rows and makes the rest.
+///
+/// What is written is accepted by [`read_header`] and gives the same rows. Two
+/// words of a field are not written: its dark mark and a repetition without flag
+/// 0x01. Tables that break a rule get the reason that the bytes would get; a
+/// string that is not inside `strings` is
+/// [`Reason::PastContainer`](crate::Reason::PastContainer), a number too wide for
+/// its place [`Reason::ElementTooWide`](crate::Reason::ElementTooWide), and `out`
+/// is too small only where nothing else is wrong. A refusal changes nothing.
+///
+/// ```
+/// use rntuple_check::{write_header, HeaderTexts, Reason};
+///
+/// let mut out = [0; 64];
+/// let header = write_header(b"", HeaderTexts::default(), &[], &[], &[], &mut out)?;
+/// assert_eq!(header, include_bytes!("../../../examples/smallest.header"));
+///
+/// let refusal = write_header(b"", HeaderTexts::default(), &[0; 15], &[1, 8, 0, 0], &[], &mut out).unwrap_err();
+/// assert_eq!(refusal.reason, Reason::BitsOfType);
+/// # Ok::<(), rntuple_check::Refusal>(())
+/// ```
+pub fn write_header<'a>(
+    strings: &[u8],
+    texts: HeaderTexts,
+    fields: &[u64],
+    columns: &[u64],
+    aliases: &[u64],
+    out: &'a mut [u8],
+) -> Result<&'a mut [u8], Refusal> {
+    let HeaderTexts { name, description } = texts;
+    let mut result = [0; 1];
+    // SAFETY: see above.
+    accepted(unsafe {
+        c::rnt_write_header(
+            strings.as_ptr(),
+            strings.len(),
+            name.place,
+            name.length,
+            description.place,
+            description.length,
+            fields.as_ptr(),
+            fields.len(),
+            columns.as_ptr(),
+            columns.len(),
+            aliases.as_ptr(),
+            aliases.len(),
+            out.as_mut_ptr(),
+            out.len(),
+            result.as_mut_ptr(),
+            result.len(),
+        )
+    })?;
+    Ok(&mut out[..result[0] as usize])
+}
+
+/// Writes a footer of this header, for a file of this length, from tables as
+/// [`read_footer`] leaves them, rows of 5 and 2 words, into the first bytes of
+/// `out`, and gives the bytes written. It is of version 2 where each cluster has
+/// the checksum of its page list, of version 1 where none has; some with and some
+/// without are [`Reason::CountsDisagree`](crate::Reason::CountsDisagree).
+/// [`new_footer`](crate::new_footer) takes rows and makes the rest.
+///
+/// What is refused, and what is read back, is as for [`write_header`]; the header
+/// is refused first.
+pub fn write_footer<'a>(
+    header: &[u8],
+    file_length: u64,
+    clusters: &[u64],
+    metadata: &[u64],
+    out: &'a mut [u8],
+) -> Result<&'a mut [u8], Refusal> {
+    let mut result = [0; 1];
+    // SAFETY: see above.
+    accepted(unsafe {
+        c::rnt_write_footer(
+            header.as_ptr(),
+            header.len(),
+            file_length,
+            clusters.as_ptr(),
+            clusters.len(),
+            metadata.as_ptr(),
+            metadata.len(),
+            out.as_mut_ptr(),
+            out.len(),
+            result.as_mut_ptr(),
+            result.len(),
+        )
+    })?;
+    Ok(&mut out[..result[0] as usize])
+}
+
+/// Writes the page list of a cluster with so many entries, under its header, for
+/// a file of this length, from a table as [`read_page_list`] leaves it, rows of 5
+/// words in the order of their columns, into the first bytes of `out`, and gives
+/// the bytes written. [`new_page_list`](crate::new_page_list) takes rows and makes
+/// the rest.
+///
+/// What is refused, and what is read back, is as for [`write_header`]; the header
+/// is refused first.
+pub fn write_page_list<'a>(
+    header: &[u8],
+    entries: u64,
+    file_length: u64,
+    pages: &[u64],
+    out: &'a mut [u8],
+) -> Result<&'a mut [u8], Refusal> {
+    let mut result = [0; 1];
+    // SAFETY: see above.
+    accepted(unsafe {
+        c::rnt_write_page_list(
+            header.as_ptr(),
+            header.len(),
+            entries,
+            file_length,
+            pages.as_ptr(),
+            pages.len(),
+            out.as_mut_ptr(),
+            out.len(),
+            result.as_mut_ptr(),
+            result.len(),
+        )
+    })?;
+    Ok(&mut out[..result[0] as usize])
 }
 
 /// Decodes a page, which includes its checksum where one follows, into the

@@ -3,7 +3,8 @@
 //!
 //! The functions of this crate take the memory that is written as slices, as
 //! the library does. [`HeaderRoom`], [`FooterRoom`], [`PageListRoom`],
-//! [`decode`] and [`encode`] make that memory, of a size that is never too small.
+//! [`decode`], [`encode`], [`new_header`], [`new_footer`] and [`new_page_list`]
+//! make that memory, of a size that is never too small.
 //!
 //! ```
 //! use rntuple_check::{HeaderRoom, Reason};
@@ -42,6 +43,27 @@
 //! # Ok::<(), rntuple_check::Refusal>(())
 //! ```
 //!
+//! Rows can be written as an envelope, by the rules by which it is read:
+//!
+//! ```
+//! use rntuple_check::{new_page_list, PageListRoom, Reason};
+//!
+//! let header = include_bytes!("../../../examples/fields.header");
+//! let list = include_bytes!("../../../examples/fields.pagelist");
+//! let mut room = PageListRoom::full();
+//! let mut pages: Vec<_> = room.read(header, list, 3, 4_096)?.pages.iter().collect();
+//! assert_eq!(new_page_list(header, 3, 4_096, &pages)?, list);
+//!
+//! // Its last page elsewhere, and then behind the end of the file.
+//! pages[4].offset = 384;
+//! let stale = include_bytes!("../../../examples/stale.pagelist");
+//! assert_eq!(new_page_list(header, 3, 4_096, &pages)?, stale);
+//! pages[4].offset = 4_096;
+//! let refusal = new_page_list(header, 3, 4_096, &pages).unwrap_err();
+//! assert_eq!(refusal.reason, Reason::OutsideFile);
+//! # Ok::<(), rntuple_check::Refusal>(())
+//! ```
+//!
 //! What is proved is the library: its answers and all that it writes. This
 //! crate is tested. The rules are in `docs/PROFILE.md`.
 
@@ -52,15 +74,16 @@ mod rows;
 
 pub use calls::{
     crc32, decode_page, encode_page, is_utf8, parent_moves, read_footer, read_header, read_page_list,
-    read_paired_page_list, Footer, Header, PageList,
+    read_paired_page_list, write_footer, write_header, write_page_list, Footer, Header, HeaderTexts, PageList, Text,
 };
 pub use refusal::{Envelope, Reason, Refusal};
-pub use room::{decode, encode, FooterRoom, HeaderRoom, PageListRoom};
+pub use room::{decode, encode, new_footer, new_header, new_page_list, FooterRoom, HeaderRoom, PageListRoom};
 pub use rows::{Alias, Cluster, Column, ColumnNumber, Field, FieldNumber, Link, Page, Row, Table};
 
-/// The most rows that an accepted envelope can have, and the most elements of
-/// one page call.
+/// The most bytes and rows that an accepted envelope can have, and the most
+/// elements of one page call.
 pub mod most {
+    pub const BYTES: usize = 1_048_576;
     pub const FIELDS: usize = 512;
     pub const COLUMNS: usize = 1_024;
     pub const ALIASES: usize = 256;

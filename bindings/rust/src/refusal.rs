@@ -81,7 +81,7 @@ reasons! {
     (22, PageChecksumDiffers, "page checksum differs"),
     (23, TypeNotRead, "column type unknown, or Switch"),
     (24, UnusedBitsSet, "unused bits of a Bit page set"),
-    (25, ElementTooWide, "element to encode does not fit its width"),
+    (25, ElementTooWide, "element to encode, or number to write, does not fit its width"),
     (26, OtherPageList, "page list has another checksum than its cluster's row"),
 }
 

@@ -1,11 +1,12 @@
 //! Memory of full size: with it nothing is refused for want of room.
 
 use crate::calls::{
-    decode_page, encode_page, read_footer, read_header, read_page_list, read_paired_page_list, Footer, Header, PageList,
+    decode_page, encode_page, read_footer, read_header, read_page_list, read_paired_page_list, write_footer,
+    write_header, write_page_list, Footer, Header, HeaderTexts, PageList,
 };
 use crate::most;
 use crate::refusal::Refusal;
-use crate::rows::{Alias, Cluster, Column, Field, Link, Page, Row};
+use crate::rows::{add, Alias, Cluster, Column, Field, Link, Page, Row};
 
 fn table<'a, R: Row<'a>>(rows: usize) -> Vec<u64> {
     vec![0; rows * R::WORDS]
@@ -103,4 +104,95 @@ pub fn encode(column_type: u16, checksum: bool, elements: &[u64]) -> Result<Vec<
     let written = encode_page(column_type, elements.len(), checksum, elements, 0, &mut page)?.len();
     page.truncate(written);
     Ok(page)
+}
+
+/// What is written into memory that is enough for an envelope of up to so many
+/// bytes.
+fn written(most: usize, write: impl FnOnce(&mut [u8]) -> Result<usize, Refusal>) -> Result<Vec<u8>, Refusal> {
+    // Longer ones are refused before room is asked for.
+    let mut out = vec![0; most.min(most::BYTES)];
+    let length = write(&mut out)?;
+    out.truncate(length);
+    Ok(out)
+}
+
+/// The header of these rows. See [`write_header`]; dark marks are not written,
+/// nor is a repetition without flag 0x01.
+///
+/// ```
+/// use rntuple_check::{new_header, HeaderRoom};
+///
+/// let mut room = HeaderRoom::full();
+/// let header = room.read(include_bytes!("../../../examples/newer.header"))?;
+/// let (fields, columns): (Vec<_>, Vec<_>) = (header.fields.iter().collect(), header.columns.iter().collect());
+/// let aliases: Vec<_> = header.aliases.iter().collect();
+/// let envelope = new_header(header.name, header.description, &fields, &columns, &aliases)?;
+/// // The same content as of a newer writer, without what that adds.
+/// assert_eq!(envelope, include_bytes!("../../../examples/fields.header"));
+/// # Ok::<(), rntuple_check::Refusal>(())
+/// ```
+pub fn new_header(
+    name: &str,
+    description: &str,
+    fields: &[Field],
+    columns: &[Column],
+    aliases: &[Alias],
+) -> Result<Vec<u8>, Refusal> {
+    let mut strings = Vec::new();
+    let texts = HeaderTexts {
+        name: add(&mut strings, name),
+        description: add(&mut strings, description),
+    };
+    let fields: Vec<u64> = fields.iter().flat_map(|field| field.words(&mut strings)).collect();
+    let columns: Vec<u64> = columns.iter().flat_map(Column::words).collect();
+    let aliases: Vec<u64> = aliases.iter().flat_map(Alias::words).collect();
+    // No record has more bytes than its row, strings aside.
+    let most = 64 + strings.len() + 8 * (fields.len() + columns.len() + aliases.len());
+    written(most, |out| {
+        Ok(write_header(&strings, texts, &fields, &columns, &aliases, out)?.len())
+    })
+}
+
+/// The footer of these rows. See [`write_footer`].
+///
+/// ```
+/// use rntuple_check::{crc32, new_footer, Cluster, Link};
+///
+/// let header = include_bytes!("../../../examples/fields.header");
+/// let list = include_bytes!("../../../examples/fields.pagelist");
+/// let cluster = Cluster {
+///     first_entry: 0,
+///     entries: 3,
+///     page_list: Link { size: list.len() as u64, offset: 512 },
+///     checksum: Some(crc32(&list[..list.len() - 4])),
+/// };
+/// let metadata = Link { size: 16, offset: 4_080 };
+/// let footer = new_footer(header, 4_096, &[cluster], &[metadata])?;
+/// assert_eq!(footer, include_bytes!("../../../examples/paired.footer"));
+/// # Ok::<(), rntuple_check::Refusal>(())
+/// ```
+pub fn new_footer(
+    header: &[u8],
+    file_length: u64,
+    clusters: &[Cluster],
+    metadata: &[Link],
+) -> Result<Vec<u8>, Refusal> {
+    let clusters: Vec<u64> = clusters.iter().flat_map(Cluster::words).collect();
+    let metadata: Vec<u64> = metadata.iter().flat_map(Link::words).collect();
+    // No record has more bytes than its row.
+    let most = 64 + 8 * (clusters.len() + metadata.len());
+    written(most, |out| {
+        Ok(write_footer(header, file_length, &clusters, &metadata, out)?.len())
+    })
+}
+
+/// The page list of these rows, which stand in the order of their columns. See
+/// [`write_page_list`].
+pub fn new_page_list(header: &[u8], entries: u64, file_length: u64, pages: &[Page]) -> Result<Vec<u8>, Refusal> {
+    let pages: Vec<u64> = pages.iter().flat_map(Page::words).collect();
+    // No page has more bytes than its row; each column has a list of its own.
+    let most = 64 + 8 * (pages.len() + most::COLUMNS);
+    written(most, |out| {
+        Ok(write_page_list(header, entries, file_length, &pages, out)?.len())
+    })
 }

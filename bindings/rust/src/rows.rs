@@ -1,5 +1,6 @@
-//! The rows of the lent tables, read from their words.
+//! The rows of the lent tables, read from their words and turned into words.
 
+use crate::calls::Text;
 use std::fmt;
 use std::marker::PhantomData;
 
@@ -89,8 +90,85 @@ pub struct Page {
     pub offset: u64,
 }
 
-/// The string with this place and length in an envelope that was accepted.
-pub(crate) fn text(envelope: &[u8], place: u64, length: u64) -> &str {
+/// Puts a string behind those that are there; gives its place and length.
+pub(crate) fn add(strings: &mut Vec<u8>, text: &str) -> Text {
+    let place = strings.len() as u64;
+    strings.extend_from_slice(text.as_bytes());
+    Text {
+        place,
+        length: text.len() as u64,
+    }
+}
+
+impl Field<'_> {
+    /// Its row, and its strings behind those that are there.
+    pub(crate) fn words(&self, strings: &mut Vec<u8>) -> [u64; 15] {
+        let [name, type_name, type_alias, description] =
+            [self.name, self.type_name, self.type_alias, self.description].map(|text| add(strings, text));
+        [
+            self.field_version.into(),
+            self.type_version.into(),
+            self.parent.0 as u64,
+            self.role.into(),
+            self.flags.into(),
+            self.repetition,
+            name.place,
+            name.length,
+            type_name.place,
+            type_name.length,
+            type_alias.place,
+            type_alias.length,
+            description.place,
+            description.length,
+            self.dark.into(),
+        ]
+    }
+}
+
+impl Column {
+    pub(crate) fn words(&self) -> [u64; 4] {
+        [
+            self.column_type.into(),
+            self.bits.into(),
+            self.field.0 as u64,
+            self.flags.into(),
+        ]
+    }
+}
+
+impl Alias {
+    pub(crate) fn words(&self) -> [u64; 2] {
+        [self.column.0 as u64, self.field.0 as u64]
+    }
+}
+
+impl Link {
+    pub(crate) fn words(&self) -> [u64; 2] {
+        [self.size, self.offset]
+    }
+}
+
+impl Cluster {
+    pub(crate) fn words(&self) -> [u64; 5] {
+        let Link { size, offset } = self.page_list;
+        [self.first_entry, self.entries, size, offset, self.checksum_word()]
+    }
+}
+
+impl Page {
+    pub(crate) fn words(&self) -> [u64; 5] {
+        [
+            self.column.0 as u64,
+            self.elements as u64,
+            self.checksum.into(),
+            self.size,
+            self.offset,
+        ]
+    }
+}
+
+/// The string that stands there in an envelope that was accepted.
+pub(crate) fn text(envelope: &[u8], Text { place, length }: Text) -> &str {
     let characters = &envelope[place as usize..][..length as usize];
     std::str::from_utf8(characters).expect("an accepted string is well-formed UTF-8")
 }
@@ -99,7 +177,10 @@ impl<'a> Row<'a> for Field<'a> {
     const WORDS: usize = 15;
 
     fn of(words: &[u64], envelope: &'a [u8]) -> Self {
-        let text = |i: usize| text(envelope, words[i], words[i + 1]);
+        let text = |i: usize| {
+            let (place, length) = (words[i], words[i + 1]);
+            text(envelope, Text { place, length })
+        };
         Field {
             field_version: words[0] as u32,
             type_version: words[1] as u32,

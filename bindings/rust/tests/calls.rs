@@ -1,9 +1,10 @@
-//! The calls from Rust: accepted, refused, too little room, pages both ways, and nothing lent.
+//! The calls from Rust: accepted, refused, too little room, envelopes and pages both ways, and nothing lent.
 
 use rntuple_check::{
-    crc32, decode, decode_page, encode, encode_page, is_utf8, most, parent_moves, read_footer, read_header,
-    read_page_list, read_paired_page_list, Alias, Cluster, Column, ColumnNumber, Envelope, FieldNumber, FooterRoom,
-    HeaderRoom, Link, Page, PageListRoom, Reason, Refusal,
+    crc32, decode, decode_page, encode, encode_page, is_utf8, most, new_footer, new_header, new_page_list,
+    parent_moves, read_footer, read_header, read_page_list, read_paired_page_list, write_footer, write_header,
+    write_page_list, Alias, Cluster, Column, ColumnNumber, Envelope, Field, FieldNumber, FooterRoom, HeaderRoom,
+    HeaderTexts, Link, Page, PageListRoom, Reason, Refusal, Text,
 };
 
 const FIELDS: &[u8] = include_bytes!("../../../examples/fields.header");
@@ -465,6 +466,346 @@ fn the_smallest_are_read() {
         .unwrap()
         .pages
         .is_empty());
+}
+
+#[test]
+fn envelopes_are_written_as_they_were_read() {
+    for envelope in [SMALLEST, FIELDS, ALPHABETS] {
+        let mut room = HeaderRoom::full();
+        let header = room.read(envelope).unwrap();
+        let fields: Vec<_> = header.fields.iter().collect();
+        let columns: Vec<_> = header.columns.iter().collect();
+        let aliases: Vec<_> = header.aliases.iter().collect();
+        let written = new_header(header.name, header.description, &fields, &columns, &aliases);
+        assert_eq!(written.as_deref(), Ok(envelope));
+    }
+    for (header, envelope) in [
+        (SMALLEST, SMALLEST_FOOTER),
+        (FIELDS, FIELDS_FOOTER),
+        (FIELDS, PAIRED_FOOTER),
+    ] {
+        let mut room = FooterRoom::full();
+        let footer = room.read(header, envelope, 4_096).unwrap();
+        let clusters: Vec<_> = footer.clusters.iter().collect();
+        let metadata: Vec<_> = footer.metadata.iter().collect();
+        assert_eq!(new_footer(header, 4_096, &clusters, &metadata).as_deref(), Ok(envelope));
+    }
+    for (header, envelope, entries) in [
+        (SMALLEST, SMALLEST_PAGE_LIST, 0),
+        (FIELDS, FIELDS_PAGE_LIST, 3),
+        (FIELDS, STALE_PAGE_LIST, 3),
+    ] {
+        let mut room = PageListRoom::full();
+        let pages: Vec<_> = room
+            .read(header, envelope, entries, 4_096)
+            .unwrap()
+            .pages
+            .iter()
+            .collect();
+        assert_eq!(new_page_list(header, entries, 4_096, &pages).as_deref(), Ok(envelope));
+    }
+}
+
+/// The lent tables go from the reader to the writer as they are, with the envelope for strings.
+#[test]
+fn tables_are_written_as_they_were_read() {
+    let (mut fields, mut columns, mut aliases) = ([OLD; 5 * 15], [OLD; 4 * 4 + 3], [OLD; 3]);
+    let header = read_header(FIELDS, &mut fields, &mut columns, &mut aliases).unwrap();
+    let texts = header.texts;
+    let mut out = [9; 1_000];
+    let written = write_header(FIELDS, texts, &fields, &columns, &aliases, &mut out).unwrap();
+    assert_eq!(written, FIELDS);
+    assert!(out[FIELDS.len()..].iter().all(|&byte| byte == 9));
+    let (mut clusters, mut metadata) = ([OLD; 5], [OLD; 3]);
+    read_footer(FIELDS, PAIRED_FOOTER, 4_096, &mut clusters, &mut metadata).unwrap();
+    let mut out = [9; 200];
+    let written = write_footer(FIELDS, 4_096, &clusters, &metadata, &mut out).unwrap();
+    assert_eq!(written, PAIRED_FOOTER);
+    assert!(out[PAIRED_FOOTER.len()..].iter().all(|&byte| byte == 9));
+    let mut pages = [OLD; 5 * 5 + 4];
+    read_page_list(FIELDS, FIELDS_PAGE_LIST, 3, 4_096, &mut pages).unwrap();
+    let mut out = [9; 200];
+    let written = write_page_list(FIELDS, 3, 4_096, &pages, &mut out).unwrap();
+    assert_eq!(written, FIELDS_PAGE_LIST);
+    assert!(out[FIELDS_PAGE_LIST.len()..].iter().all(|&byte| byte == 9));
+}
+
+/// A top-level field.
+fn top(number: usize, name: &str) -> Field<'_> {
+    Field {
+        field_version: 1,
+        type_version: 2,
+        parent: FieldNumber(number),
+        role: 0,
+        flags: 0,
+        repetition: 0,
+        name,
+        type_name: "std::vector<…>",
+        type_alias: "",
+        description: "",
+        dark: false,
+    }
+}
+
+#[test]
+fn a_written_header_has_the_rows() {
+    let child = Field {
+        parent: FieldNumber(0),
+        flags: 1,
+        repetition: u64::MAX,
+        ..top(1, "дочерний")
+    };
+    // What is not written: a dark mark, and a repetition without its flag.
+    let other = Field {
+        flags: 2,
+        repetition: 7,
+        dark: true,
+        ..top(2, "")
+    };
+    let fields = [top(0, "events"), child, other];
+    let column = |column_type, bits, field| Column {
+        column_type,
+        bits,
+        field: FieldNumber(field),
+        flags: 5,
+    };
+    let columns = [column(0x06, 1, 0), column(0xFFFF, 3, 1)];
+    let alias = Alias {
+        column: ColumnNumber(1),
+        field: FieldNumber(2),
+    };
+    let envelope = new_header("a", "b", &fields, &columns, &[alias]).unwrap();
+    let mut room = HeaderRoom::full();
+    let header = room.read(&envelope).unwrap();
+    assert_eq!((header.name, header.description), ("a", "b"));
+    let mut due = fields;
+    (due[0].dark, due[1].dark) = (true, true);
+    (due[2].dark, due[2].repetition) = (false, 0);
+    assert_eq!(header.fields.iter().collect::<Vec<_>>(), due);
+    assert_eq!(header.columns.iter().collect::<Vec<_>>(), columns);
+    assert_eq!(header.aliases.iter().collect::<Vec<_>>(), [alias]);
+
+    let refused = |fields: &[Field], columns: &[Column]| {
+        let refusal = new_header("a", "b", fields, columns, &[]).unwrap_err();
+        assert_eq!(refusal.envelope, Envelope::Header);
+        refusal.reason
+    };
+    let circle = [top(1, "a"), top(0, "b")];
+    assert_eq!(refused(&circle, &[]), Reason::EndlessChain);
+    assert_eq!(refused(&circle, &[column(6, 2, 0)]), Reason::BitsOfType);
+    assert_eq!(refused(&[top(1, "a")], &[]), Reason::NoSuchNumber);
+    assert_eq!(refused(&[top(1 << 32, "a")], &[]), Reason::ElementTooWide);
+    let role = Field { role: 5, ..top(0, "a") };
+    assert_eq!(refused(&[role], &[]), Reason::NotListed);
+    let many: Vec<_> = (0..=most::FIELDS).map(|i| top(i, "a")).collect();
+    assert_eq!(refused(&many, &[]), Reason::CountAboveCeiling);
+    let long = "n".repeat(most::BYTES - 47);
+    assert_eq!(
+        new_header(&long, "", &[], &[], &[]).unwrap_err().reason,
+        Reason::EnvelopeTooLong
+    );
+    assert_eq!(
+        new_header(&long[1..], "", &[], &[], &[]).map(|bytes| bytes.len()),
+        Ok(most::BYTES)
+    );
+}
+
+/// Strings share bytes, stand in any order, and are inside or are not.
+#[test]
+fn strings_are_lent_in_any_places() {
+    let strings = "abcäd".as_bytes();
+    let write = |place, length| {
+        let texts = HeaderTexts {
+            name: Text { place, length },
+            description: Text { place: 1, length: 2 },
+        };
+        let mut out = [9; 100];
+        let written = write_header(strings, texts, &[], &[], &[], &mut out).map(|envelope| envelope.to_vec());
+        match &written {
+            Ok(envelope) => assert!(out[envelope.len()..].iter().all(|&byte| byte == 9)),
+            Err(_) => assert_eq!(out, [9; 100]),
+        }
+        let mut room = HeaderRoom::full();
+        let header = room.read(written.as_ref().map_err(|refusal| refusal.reason)?).unwrap();
+        assert_eq!(header.description, "bc");
+        Ok(header.name.to_string())
+    };
+    assert_eq!(write(0, 6), Ok("abcäd".to_string()));
+    assert_eq!(write(1, 4), Ok("bcä".to_string()));
+    assert_eq!((write(6, 0), write(3, 0)), (Ok(String::new()), Ok(String::new())));
+    for (place, length) in [(0, 7), (6, 1), (7, 0), (u64::MAX, 0), (u64::MAX, 1), (u64::MAX - 1, 4)] {
+        assert_eq!(write(place, length), Err(Reason::PastContainer), "{place}, {length}");
+    }
+    for (place, length) in [(1, 3), (4, 1), (4, 2)] {
+        assert_eq!(write(place, length), Err(Reason::StringWrong), "{place}, {length}");
+    }
+    for (place, length) in [
+        (0, 1 << 20),
+        (0, 1 << 32),
+        (0, 1 << 63),
+        (0, u64::MAX),
+        (9, u64::MAX - 8),
+    ] {
+        assert_eq!(write(place, length), Err(Reason::EnvelopeTooLong), "{place}, {length}");
+    }
+}
+
+#[test]
+fn a_written_footer_has_the_rows() {
+    for checksums in [[None, None], [Some(0), Some(u32::MAX)]] {
+        let rows = clusters(checksums);
+        let metadata = [Link { size: 5, offset: 7 }];
+        let envelope = new_footer(FIELDS, 1_000, &rows, &metadata).unwrap();
+        let bytes = checksums.map(|checksum| checksum.map_or(Vec::new(), |sum| sum.to_le_bytes().to_vec()));
+        let version = if checksums[0].is_some() { 2 } else { 1 };
+        assert_eq!(envelope, footer_of(FIELDS, version, 1, [&bytes[0], &bytes[1]]));
+        let mut room = FooterRoom::full();
+        let footer = room.read(FIELDS, &envelope, 1_000).unwrap();
+        assert_eq!(footer.clusters.iter().collect::<Vec<_>>(), rows);
+        assert_eq!(footer.metadata.iter().collect::<Vec<_>>(), metadata);
+    }
+    let reason = |rows: &[Cluster], metadata: &[Link]| {
+        let refusal = new_footer(FIELDS, 1_000, rows, metadata).unwrap_err();
+        assert_eq!(refusal.envelope, Envelope::Footer);
+        refusal.reason
+    };
+    let [first, second] = clusters([Some(1), Some(2)]);
+    assert_eq!(reason(&clusters([None, Some(1)]), &[]), Reason::CountsDisagree);
+    assert_eq!(reason(&[second], &[]), Reason::CountsDisagree);
+    let entries = 1 << 60;
+    assert_eq!(reason(&[Cluster { entries, ..first }], &[]), Reason::ElementTooWide);
+    let wide = Link {
+        size: 1 << 31,
+        offset: 0,
+    };
+    assert_eq!(reason(&[first], &[wide]), Reason::ElementTooWide);
+    let outside = Link { size: 1, offset: 1_000 };
+    assert_eq!(reason(&[first], &[outside]), Reason::OutsideFile);
+    assert_eq!(reason(&[first, first], &[outside]), Reason::CountsDisagree);
+    let many = vec![Link { size: 0, offset: 0 }; most::LINKS + 1];
+    assert_eq!(reason(&[], &many), Reason::CountAboveCeiling);
+    assert_eq!(new_footer(FIELDS, 0, &[], &many[1..]).unwrap().len(), 52 + 64 * 16);
+    let none = vec![row(0, None); most::CLUSTERS];
+    assert_eq!(new_footer(FIELDS, 0, &none, &[]).unwrap().len(), 52 + 1_024 * 36);
+}
+
+#[test]
+fn a_written_page_list_has_the_rows() {
+    let mut room = PageListRoom::full();
+    let rows: Vec<_> = room
+        .read(FIELDS, &page_list(), 3, 1_000)
+        .unwrap()
+        .pages
+        .iter()
+        .collect();
+    assert_eq!(new_page_list(FIELDS, 3, 1_000, &rows).unwrap(), page_list());
+    let reason = |entries, file_length, change: fn(&mut Vec<Page>)| {
+        let mut rows = rows.clone();
+        change(&mut rows);
+        let refusal = new_page_list(FIELDS, entries, file_length, &rows).unwrap_err();
+        assert_eq!(refusal.envelope, Envelope::PageList);
+        refusal.reason
+    };
+    assert_eq!(reason(4, 1_000, |_| ()), Reason::CountsDisagree);
+    assert_eq!(reason(3, 999, |_| ()), Reason::OutsideFile);
+    assert_eq!(reason(3, 1_000, |rows| rows.swap(1, 2)), Reason::NoSuchNumber);
+    assert_eq!(
+        reason(3, 1_000, |rows| rows[3].column = ColumnNumber(4)),
+        Reason::NoSuchNumber
+    );
+    assert_eq!(reason(3, 1_000, |rows| rows[0].size = 9), Reason::OutsideProfile);
+    assert_eq!(reason(3, 1_000, |rows| rows[0].size = 1 << 31), Reason::ElementTooWide);
+    assert_eq!(
+        reason(3, 1_000, |rows| rows[0].elements = 1 << 30),
+        Reason::ElementTooWide
+    );
+    let many = |rows: &mut Vec<Page>| rows.extend(vec![rows[3]; most::PAGES - 3]);
+    assert_eq!(reason(3, 1_000, many), Reason::CountAboveCeiling);
+    let long = |rows: &mut Vec<Page>| rows.extend(vec![rows[0]; 1 << 16]);
+    assert_eq!(reason(3, 1_000, long), Reason::EnvelopeTooLong);
+}
+
+/// Header, page list and footer from rows alone; the footer's row says which page list it means.
+#[test]
+fn an_archive_is_written() {
+    let column = Column {
+        column_type: 0x14,
+        bits: 32,
+        field: FieldNumber(0),
+        flags: 0,
+    };
+    let header = new_header("run", "", &[top(0, "energy")], &[column], &[]).unwrap();
+    let page = |elements: usize, offset| Page {
+        column: ColumnNumber(0),
+        elements,
+        checksum: true,
+        size: 4 * elements as u64,
+        offset,
+    };
+    let file_length = 1_000;
+    let list = |offset| new_page_list(&header, 5, file_length, &[page(3, 0), page(2, offset)]).unwrap();
+    let (own, stale) = (list(16), list(17));
+    let cluster = Cluster {
+        first_entry: 0,
+        entries: 5,
+        page_list: Link {
+            size: own.len() as u64,
+            offset: 500,
+        },
+        checksum: Some(crc32(&own[..own.len() - 4])),
+    };
+    let footer = new_footer(&header, file_length, &[cluster], &[]).unwrap();
+    let mut room = FooterRoom::full();
+    let row = room
+        .read(&header, &footer, file_length)
+        .unwrap()
+        .clusters
+        .get(0)
+        .unwrap();
+    assert_eq!(row, cluster);
+    let mut room = PageListRoom::full();
+    assert_eq!(
+        room.read_paired(&header, &own, &row, file_length).unwrap().pages.len(),
+        2
+    );
+    let refusal = room.read_paired(&header, &stale, &row, file_length).unwrap_err();
+    assert_eq!(refusal.reason, Reason::OtherPageList);
+}
+
+#[test]
+fn writing_without_room_changes_nothing() {
+    let header = refused(Envelope::Header, Reason::ChecksumDiffers);
+    for room in [0, 1, 15] {
+        let mut out = vec![9; room];
+        let (short_header, short_footer) = (32 + room, 36 + room);
+        let too_small = |envelope| refused(envelope, Reason::RoomTooSmall);
+        let texts = HeaderTexts::default();
+        let refusal = write_header(&[], texts, &[], &[], &[], &mut vec![9; short_header]).unwrap_err();
+        assert_eq!(refusal, too_small(Envelope::Header));
+        let refusal = write_footer(SMALLEST, 0, &[], &[], &mut vec![9; short_footer]).unwrap_err();
+        assert_eq!(refusal, too_small(Envelope::Footer));
+        let refusal = write_page_list(SMALLEST, 0, 0, &[], &mut out).unwrap_err();
+        assert_eq!(refusal, too_small(Envelope::PageList));
+        // The header is refused before anything else.
+        assert_eq!(write_footer(DAMAGED, 0, &[1; 5], &[], &mut out).unwrap_err(), header);
+        assert_eq!(write_page_list(DAMAGED, 0, 0, &[1; 5], &mut out).unwrap_err(), header);
+        assert!(out.iter().all(|&byte| byte == 9));
+    }
+    let mut out = [9; 60];
+    let texts = HeaderTexts::default();
+    assert_eq!(
+        write_header(&[], texts, &[], &[], &[], &mut out[..48]).unwrap(),
+        SMALLEST
+    );
+    assert_eq!(
+        write_footer(SMALLEST, 0, &[], &[], &mut out[..52]).unwrap(),
+        SMALLEST_FOOTER
+    );
+    assert_eq!(
+        write_page_list(SMALLEST, 0, 0, &[], &mut out[..16]).unwrap(),
+        SMALLEST_PAGE_LIST
+    );
+    assert_eq!(out[52..], [9; 8]);
 }
 
 #[test]

@@ -14,6 +14,9 @@ ghost use Rattle.page_list.specs.Tables.{outcomeOf as pageListOutcome};
 ghost use Rattle.page_rules.specs.Page.{outcomeOf as pageOutcome};
 ghost use Rattle.answers.specs.Results.{headerResult};
 
+// What a call answers whose result has too few words: nothing is read, and nothing is written.
+pub const RESULT_TOO_SHORT: u32 = 4294967295;
+
 // The places and lengths of name and description, and the counts of fields, columns and aliases.
 pub fn tell_header(answer: HeaderAnswer, result: &mut [u64]) -> u32
     ensures answers { λ r. ⌜ r ≡ codeOf (headerOutcome answer) ⌝ }

@@ -10,3 +10,4 @@ pub mod Strided
 pub mod Places
 pub mod Puts
 pub mod Inverses
+pub mod PutLoop

@@ -6,17 +6,13 @@ ghost use Rattle.header.specs.Tables.{headerOf};
 ghost use Rattle.footer.specs.Tables.{footerBeside};
 ghost use Rattle.page_list.specs.Tables.{pageListBeside};
 ghost use Rattle.pairing.specs.Paired.{pairedBeside};
+ghost use Rattle.writing.specs.Answers.{headerToWrite, footerToWrite, pageListToWrite};
 ghost use Rattle.page_rules.specs.Page.{decodeOutcome, decoded};
 ghost use Rattle.outcome.specs.Outcome.{codeOf};
-ghost use Rattle.exports.specs.Calls.{BytesCall, isUtf8, HeaderCall, MovesCall, FooterCall, PageListCall, EncodeCall, asks};
-
-// What a call answers whose result has too few words: nothing is read, and nothing is written.
-const RESULT_TOO_SHORT: u32 = 4294967295;
-
-// A column type has two bytes. Any number above is unknown, which is refused before all else: 23, in envelope 4.
-const LARGEST_TYPE: u32 = 65535;
-
-const UNKNOWN_TYPE: u32 = 4 * 256 + 23;
+ghost use Rattle.envelope_calls.specs.Calls.{HeaderCall, MovesCall, FooterCall, PageListCall};
+ghost use Rattle.write_calls.specs.Calls.{WriteCall, textsAt};
+ghost use Rattle.page_calls.specs.Calls.{EncodeCall, asks};
+ghost use Rattle.exports.specs.Calls.{BytesCall, isUtf8};
 
 #[no_mangle]
 pub extern "C" fn rnt_crc32(bytes: &[u8]) -> u32
@@ -45,22 +41,14 @@ pub extern "C" fn rnt_read_header(
 ) -> u32
     ensures { λ r. ⌜ HeaderCall (headerOf (now (envelope .entry))) (now (fields .entry)) (now (fields .exit)) (now (columns .entry)) (now (columns .exit)) (now (aliases .entry)) (now (aliases .exit)) (now (result .entry)) (now (result .exit)) r ⌝ }
 {
-    if result.len() < 7 {
-        return RESULT_TOO_SHORT;
-    }
-    let answer = header_reader::read_header(envelope, fields, columns, aliases);
-    answers::tell_header(answer, result)
+    envelope_calls::read_header(envelope, fields, columns, aliases, result)
 }
 
 #[no_mangle]
 pub extern "C" fn rnt_parent_moves(envelope: &[u8], result: &mut [u64]) -> u32
     ensures { λ r. ⌜ MovesCall (headerOf (now (envelope .entry))) (now (result .entry)) (now (result .exit)) r ⌝ }
 {
-    if result.len() < 1 {
-        return RESULT_TOO_SHORT;
-    }
-    let answer = moves::parent_moves(envelope);
-    answers::tell_moves(answer, result)
+    envelope_calls::parent_moves(envelope, result)
 }
 
 #[no_mangle]
@@ -74,11 +62,7 @@ pub extern "C" fn rnt_read_footer(
 ) -> u32
     ensures { λ r. ⌜ FooterCall (footerBeside (now (header .entry)) (now (footer .entry)) «file_length») (now (clusters .entry)) (now (clusters .exit)) (now (metadata .entry)) (now (metadata .exit)) (now (result .entry)) (now (result .exit)) r ⌝ }
 {
-    if result.len() < 2 {
-        return RESULT_TOO_SHORT;
-    }
-    let answer = footer::read_footer(header, footer, file_length, clusters, metadata);
-    answers::tell_footer(answer, result)
+    envelope_calls::read_footer(header, footer, file_length, clusters, metadata, result)
 }
 
 #[no_mangle]
@@ -92,11 +76,7 @@ pub extern "C" fn rnt_read_page_list(
 ) -> u32
     ensures { λ r. ⌜ PageListCall (pageListBeside (now (header .entry)) (now («page_list» .entry)) entries «file_length») (now (pages .entry)) (now (pages .exit)) (now (result .entry)) (now (result .exit)) r ⌝ }
 {
-    if result.len() < 1 {
-        return RESULT_TOO_SHORT;
-    }
-    let answer = page_list::read_page_list(header, page_list, entries, file_length, pages);
-    answers::tell_page_list(answer, result)
+    envelope_calls::read_page_list(header, page_list, entries, file_length, pages, result)
 }
 
 #[no_mangle]
@@ -111,21 +91,74 @@ pub extern "C" fn rnt_read_paired_page_list(
 ) -> u32
     ensures { λ r. ⌜ PageListCall (pairedBeside (now (header .entry)) (now («page_list» .entry)) entries checksum «file_length») (now (pages .entry)) (now (pages .exit)) (now (result .entry)) (now (result .exit)) r ⌝ }
 {
-    if result.len() < 1 {
-        return RESULT_TOO_SHORT;
-    }
-    let answer = pairing::read_paired_page_list(
+    envelope_calls::read_paired_page_list(
         header,
         page_list,
         entries,
         checksum,
         file_length,
         pages,
-    );
-    answers::tell_page_list(answer, result)
+        result,
+    )
 }
 
-// No count is handed over: it is that of the elements asked for.
+#[no_mangle]
+pub extern "C" fn rnt_write_header(
+    strings: &[u8],
+    name_place: u64,
+    name_length: u64,
+    description_place: u64,
+    description_length: u64,
+    fields: &[u64],
+    columns: &[u64],
+    aliases: &[u64],
+    out: &mut [u8],
+    result: &mut [u64],
+) -> u32
+    ensures { λ r. ⌜ WriteCall 1 (headerToWrite (now (strings .entry)) (textsAt «name_place» «name_length» «description_place» «description_length») (now (fields .entry)) (now (columns .entry)) (now (aliases .entry))) (now (out .entry)) (now (out .exit)) (now (result .entry)) (now (result .exit)) r ⌝ }
+{
+    write_calls::write_header(
+        strings,
+        name_place,
+        name_length,
+        description_place,
+        description_length,
+        fields,
+        columns,
+        aliases,
+        out,
+        result,
+    )
+}
+
+#[no_mangle]
+pub extern "C" fn rnt_write_footer(
+    header: &[u8],
+    file_length: u64,
+    clusters: &[u64],
+    metadata: &[u64],
+    out: &mut [u8],
+    result: &mut [u64],
+) -> u32
+    ensures { λ r. ⌜ WriteCall 2 (footerToWrite (now (header .entry)) «file_length» (now (clusters .entry)) (now (metadata .entry))) (now (out .entry)) (now (out .exit)) (now (result .entry)) (now (result .exit)) r ⌝ }
+{
+    write_calls::write_footer(header, file_length, clusters, metadata, out, result)
+}
+
+#[no_mangle]
+pub extern "C" fn rnt_write_page_list(
+    header: &[u8],
+    entries: u64,
+    file_length: u64,
+    pages: &[u64],
+    out: &mut [u8],
+    result: &mut [u64],
+) -> u32
+    ensures { λ r. ⌜ WriteCall 3 (pageListToWrite (now (header .entry)) entries «file_length» (now (pages .entry))) (now (out .entry)) (now (out .exit)) (now (result .entry)) (now (result .exit)) r ⌝ }
+{
+    write_calls::write_page_list(header, entries, file_length, pages, out, result)
+}
+
 #[no_mangle]
 pub extern "C" fn rnt_decode_page(
     column_type: u32,
@@ -138,18 +171,7 @@ pub extern "C" fn rnt_decode_page(
     ensures answers { λ r. ⌜ r ≡ codeOf (decodeOutcome «column_type» elements (asks checksum) (now (page .entry)) (length (now (words .entry))) start) ⌝ }
     ensures leaves { λ _. ⌜ now (words .exit) ≡ decoded «column_type» elements (asks checksum) (now (page .entry)) (now (words .entry)) start ⌝ }
 {
-    if LARGEST_TYPE < column_type {
-        return UNKNOWN_TYPE;
-    }
-    let answer = page_decoding::decode_page(
-        column_type as u16,
-        elements as usize,
-        checksum != 0,
-        page,
-        words,
-        start as usize,
-    );
-    answers::tell_page(answer, &mut [0; 0])
+    page_calls::decode_page(column_type, elements, checksum, page, words, start)
 }
 
 #[no_mangle]
@@ -164,20 +186,5 @@ pub extern "C" fn rnt_encode_page(
 ) -> u32
     ensures { λ r. ⌜ EncodeCall «column_type» elements checksum (now (words .entry)) start (now (page .entry)) (now (page .exit)) (now (result .entry)) (now (result .exit)) r ⌝ }
 {
-    if result.len() < 1 {
-        return RESULT_TOO_SHORT;
-    }
-    if LARGEST_TYPE < column_type {
-        result[0] = 0;
-        return UNKNOWN_TYPE;
-    }
-    let answer = page_encoding::encode_page(
-        column_type as u16,
-        elements as usize,
-        checksum != 0,
-        words,
-        start as usize,
-        page,
-    );
-    answers::tell_page(answer, result)
+    page_calls::encode_page(column_type, elements, checksum, words, start, page, result)
 }

@@ -5,6 +5,8 @@ use rows::FieldHead;
 use rows::FieldNumber;
 use rows::FieldRow;
 use rows::FieldTexts;
+use verdicts::BITS_16;
+use verdicts::BITS_32;
 ghost use mathlib.Core.Path.{_≡_};
 ghost use mathlib.Core.List.{[]};
 ghost use Rattle.rows.specs.Words.{fieldWidth};
@@ -13,22 +15,16 @@ ghost use Rattle.writing.specs.Piece.{pieces};
 ghost use Rattle.writing.specs.Rows.{allRows};
 ghost use Rattle.writing.specs.Header.{fieldHeadPiece, fieldTextsPiece, fieldPiece, fieldItem, fieldListPiece};
 
-// The first number that places of 16 bits, and of 32 bits, have no room for.
-
-const WIDE_16: u64 = 65536;
-
-const WIDE_32: u64 = 4294967296;
-
 // What a field's record has before its strings, where there are `fields` fields. A repetition has a place of 64 bits.
 fn head_number(head: FieldHead, fields: u64) -> u16
     ensures { λ r. ⌜ r ≡ fieldHeadPiece fields head .number ⌝ }
 {
     let parent = head.parent;
-    let version = verdicts::narrow(head.field_version, WIDE_32, 0);
-    let type_version = verdicts::narrow(head.type_version, WIDE_32, 0);
-    let up = verdicts::narrow(parent.0, WIDE_32, tested::below(fields, parent.0));
-    let role = verdicts::narrow(head.role, WIDE_16, tested::listed(4, head.role));
-    let flags = verdicts::narrow(head.flags, WIDE_16, tested::listed(3, head.flags));
+    let version = verdicts::narrow(head.field_version, BITS_32, 0);
+    let type_version = verdicts::narrow(head.type_version, BITS_32, 0);
+    let up = verdicts::narrow(parent.0, BITS_32, tested::below(fields, parent.0));
+    let role = verdicts::narrow(head.role, BITS_16, tested::listed(4, head.role));
+    let flags = verdicts::narrow(head.flags, BITS_16, tested::listed(3, head.flags));
     let last = verdicts::first(up, verdicts::first(role, flags));
     verdicts::first(version, verdicts::first(type_version, last))
 }

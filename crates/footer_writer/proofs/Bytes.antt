@@ -15,7 +15,8 @@ use Rattle.tree.specs.Bytes.{spelled}
 use Rattle.tree.specs.Spelling.{footerVersion}
 use Rattle.writing.specs.Piece.{recordPiece, pieces}
 use Rattle.writing.specs.Footer.{linkPiece, checksumPiece, clusterPiece, emptyPiece, carriesFor, footerPayloadPiece}
-use Rattle.stores.proofs.Storing.{numbers-long}
+use Rattle.stores.specs.Stored.{Stored}
+use Rattle.stores.proofs.Storing.{numbers-long, stored-then, stored-as}
 use Rattle.footer_check.specs.Sizes.{recordSize}
 
 -- a record of a cluster has the size that is stored first
@@ -61,10 +62,14 @@ version-is (c ∷ cs) = by (eqb (c .checksum) noChecksum)
     by true = refl
     by false = refl
 
--- what stands before the checksum of the footer
-pub footer-front : (checksum file : ℕ) (f : Footer) {carried : Bool} {version : ℕ} → carried ≡ carriesFor (f .clusters) → version ≡ pick carried 2 1
-    → spelled 2 version ++ (spelled 2 1 ++ footerPayloadPiece carried checksum file f .bytes)
-    ≡ spelled 2 (footerVersion (f .clusters)) ++ (spelled 2 1 ++ footerPayloadPiece (carriesFor (f .clusters)) checksum file f .bytes)
-footer-front checksum file f {carried} {version} is v =
-    let its : version ≡ footerVersion (f .clusters) = v ∙ ap (λ (b : Bool). pick b 2 1) is ∙ version-is (f .clusters) in
-    λ i. spelled 2 (its i) ++ (spelled 2 1 ++ footerPayloadPiece (is i) checksum file f .bytes)
+-- what stands before the checksum of the footer, stored part by part
+module _ (checksum file : ℕ) (f : Footer) {carried : Bool} {version : ℕ} (is : carried ≡ carriesFor (f .clusters)) (v : version ≡ pick carried 2 1) where
+  front : spelled 2 version ++ (spelled 2 1 ++ footerPayloadPiece carried checksum file f .bytes)
+      ≡ spelled 2 (footerVersion (f .clusters)) ++ (spelled 2 1 ++ footerPayloadPiece (carriesFor (f .clusters)) checksum file f .bytes)
+  front =
+      let its : version ≡ footerVersion (f .clusters) = v ∙ ap (λ (b : Bool). pick b 2 1) is ∙ version-is (f .clusters) in
+      λ i. spelled 2 (its i) ++ (spelled 2 1 ++ footerPayloadPiece (is i) checksum file f .bytes)
+
+  pub front-stored : {a b c d : List ℕ} {m n e : ℕ} → Stored a 0 (spelled 2 version) b m → Stored b m (spelled 2 1) c n → Stored c n (footerPayloadPiece carried checksum file f .bytes) d e
+      → Stored a 0 (spelled 2 (footerVersion (f .clusters)) ++ (spelled 2 1 ++ footerPayloadPiece (carriesFor (f .clusters)) checksum file f .bytes)) d e
+  front-stored one two three = stored-as front (stored-then one (stored-then two three))

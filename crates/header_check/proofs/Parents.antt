@@ -28,24 +28,16 @@ use Rattle.header.specs.Tables.{parentsOf}
 use Rattle.header.proofs.BoundLaws.{map-below}
 use Rattle.header_scan.proofs.RowLaws.{rows-end, rows-endless}
 use Rattle.tree.specs.Shape.{NoVerdict}
+use Rattle.writing.proofs.Sure.{first-none, unless-none}
 use Rattle.writing.specs.Piece.{Piece, first, put, nothing, _&_, inOrder, pieces}
 use Rattle.writing.specs.Rows.{allRows, HeaderRows}
 use Rattle.writing.specs.Header.{repetitionPiece, fieldHeadPiece, fieldTextsPiece, fieldPiece, fieldItem, textsPiece, fieldListPiece, columnListPiece, aliasListPiece, listsPiece, payloadPiece, chains}
 use Rattle.header_check.specs.Parented.{Parented}
 use Rattle.header_check.proofs.Words.{count, parent-word}
 
--- where neither of two is refused, and where a test that is passed refuses nothing
-
-first-none : (a b : ℕ) → first a b ≡ 0 → (a ≡ 0) × (b ≡ 0)
-first-none zero b e = (refl, e)
-first-none (suc a) b e = absurd (omega (arith, e))
-
+-- where neither of two is refused
 none-of : (x y : Piece) → (x & y) .number ≡ 0 → (x .number ≡ 0) × (y .number ≡ 0)
 none-of x y e = first-none (x .number) (y .number) e
-
-unless-none : (good : Bool) (n rest : ℕ) → 0 < n → unless good n rest ≡ 0 → (good ≡ true) × (rest ≡ 0)
-unless-none true n rest some e = (refl, e)
-unless-none false n rest some e = absurd (omega (arith, some, e))
 
 -- fields of which nothing is refused have parents among them
 
@@ -56,8 +48,8 @@ parent-below n h e =
     let parent : Piece = put 4 32 (below n) p in
     let last : Piece = inOrder (put 2 16 (listed 4) (h .role) ∷ put 2 16 (listed 3) (h .flags) ∷ repetitionPiece (h .flags) (h .repetition) ∷ []) in
     let third = none-of (put 4 32 NoVerdict (h .«type_version»)) (parent & last) (none-of (put 4 32 NoVerdict (h .«field_version»)) (put 4 32 NoVerdict (h .«type_version») & (parent & last)) e .1) .1 in
-    let fits = unless-none (ltb p (2 ^ 32)) 25 (below n p) (omega arith) (none-of parent last third .0) .1 in
-    ltb-true p n (unless-none (ltb p n) 14 0 (omega arith) fits .0)
+    let fits = unless-none (ltb p (2 ^ 32)) 24 (below n p) (none-of parent last third .0) .1 in
+    ltb-true p n (unless-none (ltb p n) 13 0 fits .0)
 
 module _ (strings : List ℕ) where
   each-below : (n : ℕ) (done rows : List FieldRow) → pieces (fieldItem strings n) done rows .number ≡ 0 → Each (λ (r : FieldRow). r .head .parent .0 < n) rows
@@ -70,7 +62,7 @@ module _ (strings : List ℕ) where
   fields-parented : (rows : List FieldRow) → fieldListPiece strings rows .number ≡ 0 → Parented rows
   fields-parented rows e =
       let both = first-none (atMost mostFields (length rows)) (pieces (fieldItem strings (length rows)) [] rows .number) e in
-      let few = unless-none (leb (length rows) mostFields) 10 0 (omega arith) (both .0) .0 in
+      let few = unless-none (leb (length rows) mostFields) 9 0 (both .0) .0 in
       record {
         few = leb-true (length rows) mostFields few;
         inside = map-below (λ (r : FieldRow). r .head .parent .0) (length rows) rows (each-below (length rows) [] rows (both .1));
@@ -102,25 +94,25 @@ module _ (table : List ℕ) (p : Parented (allRows fieldRow fieldWidth table)) w
     pub chain-endless : (f : FieldNumber) → chainsOf all (length table / fieldWidth) ≡ Endless f → 15 ≡ chains (allRows fieldRow fieldWidth table)
     chain-endless f e = rw (rows-endless (allRows fieldRow fieldWidth table) all (length table / fieldWidth) (count table) same few-rows inside f e)
 
--- a loop has stored the parents of i rows
-abbrev pub Stored : List ℕ → ℕ → List ℕ → Type 0
-Stored table i all = Holds (λ _ (r : FieldRow). r .head .parent .0 ∷ []) (firstRows fieldRow table i) (replicate mostFields 0) all
+-- a loop has filled in the parents of i rows
+abbrev pub Filled : List ℕ → ℕ → List ℕ → Type 0
+Filled table i all = Holds (λ _ (r : FieldRow). r .head .parent .0 ∷ []) (firstRows fieldRow table i) (replicate mostFields 0) all
 
-pub stored-none : (table : List ℕ) → Stored table 0 (replicate mostFields 0)
+pub filled-none : (table : List ℕ) → Filled table 0 (replicate mostFields 0)
 unfolding firstRows
-stored-none table = holds-none
+filled-none table = holds-none
 
-pub stored-long : (table : List ℕ) (i : ℕ) {all : List ℕ} → Stored table i all → length all ≡ mostFields
-stored-long table i m = m .long ∙ length-replicate {A = ℕ} mostFields 0
+pub filled-long : (table : List ℕ) (i : ℕ) {all : List ℕ} → Filled table i all → length all ≡ mostFields
+filled-long table i m = m .long ∙ length-replicate {A = ℕ} mostFields 0
 
-pub stored-more : (table : List ℕ) {i v : ℕ} {all : List ℕ} → Stored table i all → i < length all → v ≡ getD (rowWords fieldWidth table i) 2 0 → Stored table (i + 1) (set all i v)
+pub filled-more : (table : List ℕ) {i v : ℕ} {all : List ℕ} → Filled table i all → i < length all → v ≡ getD (rowWords fieldWidth table i) 2 0 → Filled table (i + 1) (set all i v)
 unfolding firstRows
-stored-more table {i} {v} {all} m inside e =
-    subst (λ (k : ℕ). Stored table k (set all i v)) (sym (add-one i))
+filled-more table {i} {v} {all} m inside e =
+    subst (λ (k : ℕ). Filled table k (set all i v)) (sym (add-one i))
     (holds-set (fieldRow table i) (λ _ _. refl) (ap (λ (u : ℕ). u ∷ []) (sym e)) m (rows-length fieldRow table i) inside)
 
-pub stored-all : (table : List ℕ) {n i : ℕ} {all : List ℕ} → Stored table i all → i ≡ n → take n all ≡ parentsOf (firstRows fieldRow table n)
-stored-all table {n} {i} {all} m e =
+pub filled-all : (table : List ℕ) {n i : ℕ} {all : List ℕ} → Filled table i all → i ≡ n → take n all ≡ parentsOf (firstRows fieldRow table n)
+filled-all table {n} {i} {all} m e =
     let parent : FieldRow → ℕ = λ r. r .head .parent .0 in
     let rows = firstRows fieldRow table i in
     let held : all ≡ over (parentsOf rows) (replicate mostFields 0) = m .rows ∙ ap (λ (w : List ℕ). over w (replicate mostFields 0)) (flat-one parent 0 rows) in

@@ -1,4 +1,4 @@
--- What the parent chains of rows that are to be written can be followed by.
+-- Fields whose parent chains can be followed.
 use Prim.Native.Nat.{ℕ, _≤_}
 use mathlib.Core.List.{List}
 use lib.ListN.{length}

@@ -3,6 +3,7 @@ use records::tested;
 use rows::ALIAS_WORDS;
 use rows::AliasRow;
 use rows::FIELD_WORDS;
+use verdicts::BITS_32;
 ghost use mathlib.Core.Path.{_≡_};
 ghost use mathlib.Core.List.{[]};
 ghost use Rattle.rows.specs.Words.{fieldWidth, aliasWidth};
@@ -33,9 +34,9 @@ fn alias_number(row: AliasRow, fields: &[u64], columns: u64) -> u16
 {
     let column = row.column;
     let field = row.field;
-    let first = verdicts::narrow(column.0, 4294967296, tested::below(columns, column.0));
-    let second = verdicts::narrow(field.0, 4294967296, aliasable(fields, field.0));
-    verdicts::first(first, second)
+    let physical = verdicts::narrow(column.0, BITS_32, tested::below(columns, column.0));
+    let aliased = verdicts::narrow(field.0, BITS_32, aliasable(fields, field.0));
+    verdicts::first(physical, aliased)
 }
 
 // The first refusal of the records of all aliases.

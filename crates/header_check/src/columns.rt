@@ -3,6 +3,8 @@ use records::tested;
 use rows::COLUMN_WORDS;
 use rows::ColumnNumber;
 use rows::ColumnRow;
+use verdicts::BITS_16;
+use verdicts::BITS_32;
 ghost use mathlib.Core.Path.{_≡_};
 ghost use mathlib.Core.List.{[]};
 ghost use Rattle.rows.specs.Words.{columnWidth};
@@ -17,10 +19,10 @@ fn column_number(row: ColumnRow, fields: u64) -> u16
 {
     let field = row.field;
     let sized = column_records::sized(row.column_type, row.bits);
-    let column_type = verdicts::narrow(row.column_type, 65536, 0);
-    let bits = verdicts::narrow(row.bits, 65536, sized);
-    let owner = verdicts::narrow(field.0, 4294967296, tested::below(fields, field.0));
-    let flags = verdicts::narrow(row.flags, 4294967296, tested::listed(7, row.flags));
+    let column_type = verdicts::narrow(row.column_type, BITS_16, 0);
+    let bits = verdicts::narrow(row.bits, BITS_16, sized);
+    let owner = verdicts::narrow(field.0, BITS_32, tested::below(fields, field.0));
+    let flags = verdicts::narrow(row.flags, BITS_32, tested::listed(7, row.flags));
     let last = verdicts::first(owner, flags);
     verdicts::first(column_type, verdicts::first(bits, last))
 }

@@ -1,5 +1,6 @@
 // Pages encoded: the elements of a column to bytes.
 mod bit;
+mod number;
 mod write;
 
 ghost use mathlib.Core.Path.{_≡_};

@@ -11,6 +11,7 @@ ghost use Rattle.numbers.specs.Numbers.{trailer};
 ghost use Rattle.page_rules.specs.Page.{readable, mostElements, sizeOf, bytes, checkedPage};
 ghost use Rattle.coding.specs.Strides.{puts};
 use crate::bit::pack;
+use crate::number::put_number;
 
 // The eight elements from a place on.
 fn eight_words(words: &[u64], from: usize) -> [u64; 8]
@@ -36,7 +37,7 @@ fn write_each(k: usize, words: &[u64], out: &mut [u8])
 {
     let mut i = 0;
     while i < words.len() {
-        coding::put_number(k, words[i], i * k, out);
+        put_number(k, words[i], i * k, out);
         i += 1;
     }
 }
@@ -108,7 +109,7 @@ fn add_checksum(size: usize, out: &mut [u8])
     ensures { λ _. ⌜ now (out .exit) ≡ puts 4 (crc32 (take size (now (out .entry)))) size (now (out .entry)) ⌝ }
 {
     let sum = checksum::crc32(&out[..size]);
-    coding::put_number(4, sum as u64, size, out);
+    put_number(4, sum as u64, size, out);
 }
 
 // The page of elements that fit, with its checksum where one is asked for: so many bytes in all.

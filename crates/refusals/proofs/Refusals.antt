@@ -40,7 +40,7 @@ use Rattle.refusals.proofs.PairingNumbers.{pairing-numbers}
 
 -- the numbers that are listed have one byte
 
-abbrev allBelow : ℕ → List ℕ → Bool
+abbrev pub allBelow : ℕ → List ℕ → Bool
 allBelow k [] = true
 allBelow k (m ∷ ms) = both (ltb m k) (allBelow k ms)
 
@@ -56,17 +56,17 @@ among-below k (m ∷ ms) n h a = by (among-below k ms n) (ltb m k) refl h (eqb n
     by later false l h c e a = no h
 
 -- refusals whose numbers have one byte
-abbrev OneByte : (ℕ → ℕ → Bool) → Type 0
+abbrev pub OneByte : (ℕ → ℕ → Bool) → Type 0
 OneByte refusals = (envelope number : ℕ) → refusals envelope number ≡ true → number < 256
 
-first-byte : (numbers : List ℕ) → allBelow 256 numbers ≡ true → OneByte (ofFirst numbers)
+pub first-byte : (numbers : List ℕ) → allBelow 256 numbers ≡ true → OneByte (ofFirst numbers)
 first-byte numbers few envelope number h = by (eqb envelope 1) h
   where
     by : (b : Bool) → both b (among numbers number) ≡ true → number < 256
     by true h = among-below 256 numbers number few h
     by false h = no h
 
-beside-byte : (k : ℕ) (numbers : List ℕ) → allBelow 256 numbers ≡ true → OneByte (ofBeside k numbers)
+pub beside-byte : (k : ℕ) (numbers : List ℕ) → allBelow 256 numbers ≡ true → OneByte (ofBeside k numbers)
 beside-byte k numbers few envelope number h = by (eqb envelope 1) (eqb envelope k) h
   where
     by : (b c : Bool) → pick b (among inHeader number) (both c (among (withRoom numbers) number)) ≡ true → number < 256
@@ -75,7 +75,7 @@ beside-byte k numbers few envelope number h = by (eqb envelope 1) (eqb envelope 
     by false false h = no h
 
 -- a possible outcome is told by its one number
-told : (refusals : ℕ → ℕ → Bool) → OneByte refusals → (o : Outcome) → possible refusals o ≡ true → Told refusals o
+pub told : (refusals : ℕ → ℕ → Bool) → OneByte refusals → (o : Outcome) → possible refusals o ≡ true → Told refusals o
 unfolding CodeTells
 told refusals byte o h = by (isAccepted o) refl h
   where

@@ -20,7 +20,13 @@ fn store_number(k: usize, x: u64, at: usize, out: &mut [u8]) -> usize
     if out.len() - k < at {
         return at;
     }
-    coding::put_number(k, x, at, out);
+    let mut rest = x;
+    let mut j: usize = 0;
+    while j < k {
+        out[at + j] = (rest % 256) as u8;
+        rest = rest / 256;
+        j += 1;
+    }
     at + k
 }
 

@@ -11,6 +11,12 @@ ghost use Rattle.wire.specs.Reading.{unless};
 ghost use Rattle.frames.specs.Frames.{atMost};
 ghost use Rattle.writing.specs.Piece.{first, text};
 
+// The first number that is too wide for a place of 16 bits, and for one of 32 bits.
+
+pub const BITS_16: u64 = 65536;
+
+pub const BITS_32: u64 = 4294967296;
+
 // Refuses a string that does not lie in the lent strings.
 const OUTSIDE: u16 = 7;
 

@@ -61,6 +61,49 @@ mod exported {
             result: *mut u64,
             result_words: usize,
         ) -> u32;
+        pub fn rnt_write_header(
+            strings: *const u8,
+            strings_length: usize,
+            name_place: u64,
+            name_length: u64,
+            description_place: u64,
+            description_length: u64,
+            fields: *const u64,
+            field_words: usize,
+            columns: *const u64,
+            column_words: usize,
+            aliases: *const u64,
+            alias_words: usize,
+            out: *mut u8,
+            out_length: usize,
+            result: *mut u64,
+            result_words: usize,
+        ) -> u32;
+        pub fn rnt_write_footer(
+            header: *const u8,
+            header_length: usize,
+            file_length: u64,
+            clusters: *const u64,
+            cluster_words: usize,
+            metadata: *const u64,
+            metadata_words: usize,
+            out: *mut u8,
+            out_length: usize,
+            result: *mut u64,
+            result_words: usize,
+        ) -> u32;
+        pub fn rnt_write_page_list(
+            header: *const u8,
+            header_length: usize,
+            entries: u64,
+            file_length: u64,
+            pages: *const u64,
+            page_words: usize,
+            out: *mut u8,
+            out_length: usize,
+            result: *mut u64,
+            result_words: usize,
+        ) -> u32;
         pub fn rnt_decode_page(
             column_type: u32,
             elements: u64,
@@ -209,6 +252,86 @@ mod exported {
                 checksum,
                 file_length,
                 from_raw_parts_mut(pages, page_words),
+            )
+        })
+    }
+
+    #[allow(clippy::too_many_arguments)]
+    pub unsafe fn rnt_write_header(
+        strings: *const u8,
+        strings_length: usize,
+        name_place: u64,
+        name_length: u64,
+        description_place: u64,
+        description_length: u64,
+        fields: *const u64,
+        field_words: usize,
+        columns: *const u64,
+        column_words: usize,
+        aliases: *const u64,
+        alias_words: usize,
+        out: *mut u8,
+        out_length: usize,
+        result: *mut u64,
+        result_words: usize,
+    ) -> u32 {
+        answer(from_raw_parts_mut(result, result_words), || {
+            reference::write_header(
+                from_raw_parts(strings, strings_length),
+                [name_place, name_length, description_place, description_length],
+                from_raw_parts(fields, field_words),
+                from_raw_parts(columns, column_words),
+                from_raw_parts(aliases, alias_words),
+                from_raw_parts_mut(out, out_length),
+            )
+        })
+    }
+
+    #[allow(clippy::too_many_arguments)]
+    pub unsafe fn rnt_write_footer(
+        header: *const u8,
+        header_length: usize,
+        file_length: u64,
+        clusters: *const u64,
+        cluster_words: usize,
+        metadata: *const u64,
+        metadata_words: usize,
+        out: *mut u8,
+        out_length: usize,
+        result: *mut u64,
+        result_words: usize,
+    ) -> u32 {
+        answer(from_raw_parts_mut(result, result_words), || {
+            reference::write_footer(
+                from_raw_parts(header, header_length),
+                file_length,
+                from_raw_parts(clusters, cluster_words),
+                from_raw_parts(metadata, metadata_words),
+                from_raw_parts_mut(out, out_length),
+            )
+        })
+    }
+
+    #[allow(clippy::too_many_arguments)]
+    pub unsafe fn rnt_write_page_list(
+        header: *const u8,
+        header_length: usize,
+        entries: u64,
+        file_length: u64,
+        pages: *const u64,
+        page_words: usize,
+        out: *mut u8,
+        out_length: usize,
+        result: *mut u64,
+        result_words: usize,
+    ) -> u32 {
+        answer(from_raw_parts_mut(result, result_words), || {
+            reference::write_page_list(
+                from_raw_parts(header, header_length),
+                entries,
+                file_length,
+                from_raw_parts(pages, page_words),
+                from_raw_parts_mut(out, out_length),
             )
         })
     }
@@ -365,6 +488,115 @@ pub fn read_paired_page_list(
             file_length,
             pages.as_mut_ptr(),
             pages.len(),
+            result.as_mut_ptr(),
+            result.len(),
+        )
+    }
+}
+
+/// What is lent to the writer of a header, besides the bytes that it writes.
+#[derive(Clone, Copy)]
+pub struct HeaderTables<'a> {
+    pub strings: &'a [u8],
+    /// Place and length of the name, then of the description.
+    pub texts: [u64; 4],
+    pub fields: &'a [u64],
+    pub columns: &'a [u64],
+    pub aliases: &'a [u64],
+}
+
+pub fn write_header(tables: HeaderTables, out: &mut [u8], result: &mut [u64]) -> u32 {
+    let HeaderTables {
+        strings,
+        texts: [name_place, name_length, description_place, description_length],
+        fields,
+        columns,
+        aliases,
+    } = tables;
+    // SAFETY: as above.
+    unsafe {
+        exported::rnt_write_header(
+            strings.as_ptr(),
+            strings.len(),
+            name_place,
+            name_length,
+            description_place,
+            description_length,
+            fields.as_ptr(),
+            fields.len(),
+            columns.as_ptr(),
+            columns.len(),
+            aliases.as_ptr(),
+            aliases.len(),
+            out.as_mut_ptr(),
+            out.len(),
+            result.as_mut_ptr(),
+            result.len(),
+        )
+    }
+}
+
+/// What is lent to the writer of a footer.
+#[derive(Clone, Copy)]
+pub struct FooterTables<'a> {
+    pub header: &'a [u8],
+    pub file_length: u64,
+    pub clusters: &'a [u64],
+    pub metadata: &'a [u64],
+}
+
+pub fn write_footer(tables: FooterTables, out: &mut [u8], result: &mut [u64]) -> u32 {
+    let FooterTables {
+        header,
+        file_length,
+        clusters,
+        metadata,
+    } = tables;
+    // SAFETY: as above.
+    unsafe {
+        exported::rnt_write_footer(
+            header.as_ptr(),
+            header.len(),
+            file_length,
+            clusters.as_ptr(),
+            clusters.len(),
+            metadata.as_ptr(),
+            metadata.len(),
+            out.as_mut_ptr(),
+            out.len(),
+            result.as_mut_ptr(),
+            result.len(),
+        )
+    }
+}
+
+/// What is lent to the writer of a page list.
+#[derive(Clone, Copy)]
+pub struct PageListTable<'a> {
+    pub header: &'a [u8],
+    pub entries: u64,
+    pub file_length: u64,
+    pub pages: &'a [u64],
+}
+
+pub fn write_page_list(table: PageListTable, out: &mut [u8], result: &mut [u64]) -> u32 {
+    let PageListTable {
+        header,
+        entries,
+        file_length,
+        pages,
+    } = table;
+    // SAFETY: as above.
+    unsafe {
+        exported::rnt_write_page_list(
+            header.as_ptr(),
+            header.len(),
+            entries,
+            file_length,
+            pages.as_ptr(),
+            pages.len(),
+            out.as_mut_ptr(),
+            out.len(),
             result.as_mut_ptr(),
             result.len(),
         )

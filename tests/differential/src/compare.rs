@@ -1,7 +1,9 @@
 //! Runs cases on the library and on the reference and compares everything that
 //! either of them may write.
 
-use crate::calls;
+mod writing;
+
+use crate::calls::{self, FooterTables, HeaderTables, PageListTable};
 use crate::generate::envelopes::{FooterCase, HeaderCase, PageListCase};
 use crate::generate::moves::{MovesCase, MOST_MOVES};
 use crate::generate::pages::{CrcCase, DecodeCase, EncodeCase};
@@ -133,11 +135,13 @@ enum Note {
     StaleForFootersRow,
     ShapeTells,
     MostMoves,
+    ReadBack,
+    ReadersNumber,
     Short,
 }
 
 /// The notes as a report has them.
-pub const NOTES: [&str; 8] = [
+pub const NOTES: [&str; 10] = [
     "of them also from a newer writer",
     "of them with checksums of page lists",
     "of them with the row's checksum",
@@ -145,6 +149,8 @@ pub const NOTES: [&str; 8] = [
     "stale for a row of a footer",
     "of them with moves that the shape tells",
     "of them with as many moves as there can be",
+    "of them read back as the same tables",
+    "refused by the reader's number for the same bytes",
     "with too short a result",
 ];
 
@@ -211,15 +217,24 @@ fn exported<const N: usize>(result: &mut [u64], call: impl FnOnce() -> (u32, [u6
 /// A call that counts moves: a header and the lent result.
 pub type MovesCall = fn(&[u8], &mut [u64]) -> u32;
 
+/// Calls that write: what they are lent, the bytes and the result.
+pub type WriteHeaderCall = Box<dyn Fn(HeaderTables, &mut [u8], &mut [u64]) -> u32>;
+pub type WriteFooterCall = Box<dyn Fn(FooterTables, &mut [u8], &mut [u64]) -> u32>;
+pub type WritePageListCall = Box<dyn Fn(PageListTable, &mut [u8], &mut [u64]) -> u32>;
+
 pub struct Comparer {
     pub generator: Generator,
     pub tally: Tally,
     /// The library's, or one that is wrong, to see that it is found.
     pub parent_moves: MovesCall,
+    pub write_header: WriteHeaderCall,
+    pub write_footer: WriteFooterCall,
+    pub write_page_list: WritePageListCall,
     /// Fields, clusters or pages, columns or metadata, and aliases.
     tables: [Lent<u64>; 3],
     result: Lent<u64>,
-    page: Lent<u8>,
+    /// The bytes of a page or of an envelope that are written.
+    bytes: Lent<u8>,
     shelves: [Shelf; 2],
 }
 
@@ -229,9 +244,12 @@ impl Comparer {
             generator: Generator::new(),
             tally: Tally::new(),
             parent_moves: calls::parent_moves,
+            write_header: Box::new(calls::write_header),
+            write_footer: Box::new(calls::write_footer),
+            write_page_list: Box::new(calls::write_page_list),
             tables: [Lent::new(), Lent::new(), Lent::new()],
             result: Lent::new(),
-            page: Lent::new(),
+            bytes: Lent::new(),
             shelves: [Shelf(Vec::new()), Shelf(Vec::new())],
         }
     }
@@ -274,6 +292,21 @@ impl Comparer {
                 let case = self.generator.moves_case();
                 self.moves(&case)
                     .map_err(|error| error + &dump("header", &case.envelope))
+            }
+            Kind::WriteHeader => {
+                let case = self.generator.write_header_case();
+                self.write_header(&case)
+                    .map_err(|error| error + &writing::dump_header(&case))
+            }
+            Kind::WriteFooter => {
+                let case = self.generator.write_footer_case();
+                self.write_footer(&case)
+                    .map_err(|error| error + &writing::dump_footer(&case))
+            }
+            Kind::WritePageList => {
+                let case = self.generator.write_page_list_case();
+                let compared = self.write_page_list(&case);
+                compared.map_err(|error| error + &writing::dump_page_list(&case))
             }
             Kind::Decode => {
                 let case = self.generator.decode_case();
@@ -610,7 +643,7 @@ impl Comparer {
 
     fn encode(&mut self, case: &EncodeCase) -> Result<(), String> {
         let seed = self.seed();
-        self.page.lend(case.page, seed);
+        self.bytes.lend(case.page, seed);
         self.result.lend(case.result, seed ^ 1);
         let EncodeCase {
             column_type,
@@ -620,12 +653,17 @@ impl Comparer {
             start,
             ..
         } = case;
-        let page = &mut self.page;
+        let page = &mut self.bytes;
         let theirs = exported(self.result.reference(), || {
             reference::encode_page(*column_type, *elements, *checksum != 0, words, *start, page.reference())
         });
         let result = self.result.ours();
         let ours = calls::encode_page(*column_type, *elements, *checksum, words, *start, page.ours(), result);
+        self.settle_bytes(ours, theirs)
+    }
+
+    /// Answers, the one result word, and as many bytes as it counts.
+    fn settle_bytes(&mut self, ours: u32, theirs: u32) -> Result<(), String> {
         let written = if theirs == 0 {
             self.result.reference()[0] as usize
         } else {
@@ -635,7 +673,7 @@ impl Comparer {
         let checked = if ours == theirs {
             self.result
                 .check("result", 0..named)
-                .and_then(|()| self.page.check("page", 0..written))
+                .and_then(|()| self.bytes.check("bytes", 0..written))
         } else {
             Err("answers differ".to_string())
         };

@@ -10,11 +10,12 @@ pub mod pages;
 pub mod pairing;
 pub mod random;
 pub mod strings;
+pub mod writing;
 
 use crate::writer::Writer;
 use random::Random;
 
-/// The nine kinds of cases.
+/// The twelve kinds of cases.
 #[derive(Clone, Copy, Debug, PartialEq, Eq)]
 pub enum Kind {
     Header,
@@ -26,9 +27,12 @@ pub enum Kind {
     String,
     Pairing,
     Moves,
+    WriteHeader,
+    WriteFooter,
+    WritePageList,
 }
 
-pub const KINDS: [Kind; 9] = [
+pub const KINDS: [Kind; 12] = [
     Kind::Header,
     Kind::Footer,
     Kind::PageList,
@@ -38,6 +42,9 @@ pub const KINDS: [Kind; 9] = [
     Kind::String,
     Kind::Pairing,
     Kind::Moves,
+    Kind::WriteHeader,
+    Kind::WriteFooter,
+    Kind::WritePageList,
 ];
 
 impl Kind {
@@ -52,6 +59,9 @@ impl Kind {
             Kind::String => "string",
             Kind::Pairing => "pairing",
             Kind::Moves => "moves",
+            Kind::WriteHeader => "write-header",
+            Kind::WriteFooter => "write-footer",
+            Kind::WritePageList => "write-page-list",
         }
     }
 }

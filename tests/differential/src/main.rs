@@ -11,8 +11,9 @@ const HELP: &str = "\
 usage: differential N [SEED] [--threads T] [--only KIND] [--case NUMBER]
 
 Runs N cases of each kind (header, footer, page-list, decode, encode, crc,
-string, pairing, moves) on the library and on the independent reference, and compares
-answers, result words and every word of every lent room. SEED is 1 unless given.
+string, pairing, moves, write-header, write-footer, write-page-list) on the
+library and on the independent reference, and compares answers, result words and
+every word and byte of every lent room. SEED is 1 unless given.
 --threads T      at most 2 threads, 1 unless given
 --only KIND      that kind alone
 --case NUMBER    that case alone, of each kind or of the one named
@@ -146,6 +147,9 @@ fn reachable(kind: Kind) -> Vec<(usize, usize)> {
         Kind::Encode => own(4, &[10, 20, 23, 25]),
         Kind::Crc => Vec::new(),
         Kind::String => own(1, &[9]),
+        Kind::WriteHeader => own(1, &[1, 7, 9, 10, 12, 13, 14, 15, 20, 25]),
+        Kind::WriteFooter => header.chain(own(2, &[1, 10, 18, 19, 20, 25])).collect(),
+        Kind::WritePageList => header.chain(own(3, &[1, 10, 14, 17, 18, 19, 20, 25])).collect(),
     }
 }
 

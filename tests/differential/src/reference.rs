@@ -7,6 +7,7 @@ pub mod footer;
 pub mod header;
 pub mod page_list;
 pub mod pages;
+pub mod writing;
 
 #[cfg(test)]
 mod lines;
@@ -110,6 +111,62 @@ pub fn read_paired_page_list(
     }) {
         Err(number) => (refusal(PAGE_LIST, number), [0; 1]),
         Ok(count) => (ACCEPTED, [count]),
+    }
+}
+
+/// Writes a header from flat tables; gives the bytes written.
+pub fn write_header(
+    strings: &[u8],
+    texts: writing::header::Texts,
+    fields: &[u64],
+    columns: &[u64],
+    aliases: &[u64],
+    out: &mut [u8],
+) -> (u32, [u64; 1]) {
+    let tables = writing::header::Tables::new(strings, texts, fields, columns, aliases);
+    written(HEADER, tables.write(out))
+}
+
+/// Writes a footer from flat tables, after reading its header.
+pub fn write_footer(
+    header: &[u8],
+    file_length: u64,
+    clusters: &[u64],
+    metadata: &[u64],
+    out: &mut [u8],
+) -> (u32, [u64; 1]) {
+    let header = match header::read(header) {
+        Ok(header) => header,
+        Err(number) => return (refusal(HEADER, number), [0]),
+    };
+    let tables = writing::footer::Tables::new(clusters, metadata);
+    written(FOOTER, tables.write(header.checksum, file_length, out))
+}
+
+/// Writes a page list from a flat table, after reading its header.
+pub fn write_page_list(
+    header: &[u8],
+    entries: u64,
+    file_length: u64,
+    pages: &[u64],
+    out: &mut [u8],
+) -> (u32, [u64; 1]) {
+    let header = match header::read(header) {
+        Ok(header) => header,
+        Err(number) => return (refusal(HEADER, number), [0]),
+    };
+    let pages = writing::page_list::rows(pages);
+    written(
+        PAGE_LIST,
+        writing::page_list::write(&header, entries, file_length, pages, out),
+    )
+}
+
+/// What a writer of this envelope answers.
+fn written(envelope: u32, length: Result<usize, Number>) -> (u32, [u64; 1]) {
+    match length {
+        Ok(length) => (ACCEPTED, [length as u64]),
+        Err(number) => (refusal(envelope, number), [0]),
     }
 }
 

@@ -1,6 +1,6 @@
 //! Writes envelopes from models of them, with right sizes, counts and
 //! checksums, and remembers where each number stands, so that damage can be
-//! aimed.
+//! aimed. It judges nothing, so that what breaks the rules is written too.
 
 use crate::reference::crc::{crc32, POLYNOMIAL};
 

@@ -19,7 +19,7 @@ pub const LINK_WORDS: usize = 2;
 /// In a row, where the footer carries no checksum of the page list.
 pub const NO_CHECKSUM: u64 = 1 << 32;
 
-const MOST_ENTRIES: u64 = (1 << 60) - 1;
+pub const MOST_ENTRIES: u64 = (1 << 60) - 1;
 
 #[derive(Clone, Copy)]
 pub struct Cluster {

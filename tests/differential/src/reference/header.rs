@@ -85,7 +85,7 @@ pub fn read(bytes: &[u8]) -> Result<Header, Number> {
     list.finish()?;
 
     envelope.payload.finish()?;
-    chains_end(&fields)?;
+    chains_end(fields.len(), |field| fields[field].parent as usize)?;
     mark_dark(&mut fields, &columns);
     Ok(Header {
         name,
@@ -173,14 +173,14 @@ fn alias(mut record: Container, fields: &[Field], columns: usize) -> Result<Alia
 /// Whether every chain of parents comes to a field that is its own parent.
 /// Each walk stops at a field that an earlier one has passed, so that all of
 /// them together take one step per field.
-fn chains_end(fields: &[Field]) -> Result<(), Number> {
+pub(super) fn chains_end(fields: usize, parent: impl Fn(usize) -> usize) -> Result<(), Number> {
     let mut passed_by = [0u16; FIELDS as usize];
-    for first in 0..fields.len() {
+    for first in 0..fields {
         let walk = first as u16 + 1;
         let mut at = first;
         while passed_by[at] == 0 {
             passed_by[at] = walk;
-            let parent = fields[at].parent as usize;
+            let parent = parent(at);
             if parent == at {
                 break;
             }

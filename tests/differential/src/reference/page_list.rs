@@ -72,7 +72,7 @@ pub fn read(header: &Header, bytes: &[u8], entries: u64, checksum: u64, file_len
 }
 
 /// The first column of every plain top-level field has one element per entry.
-fn totals_agree(header: &Header, totals: &[u64], entries: u64) -> Result<(), Number> {
+pub(super) fn totals_agree(header: &Header, totals: &[u64], entries: u64) -> Result<(), Number> {
     let mut seen = [false; super::header::FIELDS as usize];
     for (column, total) in header.columns.iter().zip(totals) {
         let number = column.field as usize;

@@ -1,8 +1,7 @@
 use Rattle.writing.specs.Rows.{footerRows}
 use Rattle.writing.specs.Footer.{footerPiece}
-use Rattle.stores.proofs.Storing.{stored-then, stored-as}
 use Rattle.stores.proofs.Sealing.{sealed-over}
-use Rattle.footer_writer.proofs.Bytes.{footer-front}
+use Rattle.footer_writer.proofs.Bytes.{front-stored}
 use borrow.Author.Needs.{needs}
 use Rattle.footer_writer.proofs.write.write_envelope.Statement.{statement}
 use Rattle.footer_writer.proofs.write.write_envelope.Tie as tie
@@ -31,7 +30,7 @@ same-length c = search needs
 returns : tie.Need-returns
 unfolding footerPiece
 returns c = let a = c .before .before .before .before .before .before .before .before .before .before .before .before .before .before .before .before .before .before .before .before .before .args in
-    λ file. sealed-over _ _ _ _ _ (stored-as (footer-front (a .checksum) file (footerRows (a .clusters .now) (a .metadata .now)) (c .before .before .before .before .before .before .before .before .before .before .before .before .before .before .before .before .before .carries-checksums .ensures) (c .before .before .before .before .before .before .before .before .before .before .before .before .before .before .before .before .version .ensures)) (stored-then (c .before .before .before .before .before .before .before .before .before .before .before .before .before .before .store-2 .ensures) (stored-then (c .before .before .before .before .before .before .before .before .before .before .store-22 .ensures) (c .before .before .before .before .before .before .write-payload .ensures file)))) (c .before .before .store-checksum .ensures)
+    λ file. sealed-over _ _ _ _ _ (front-stored (a .checksum) file (footerRows (a .clusters .now) (a .metadata .now)) (c .before .before .before .before .before .before .before .before .before .before .before .before .before .before .before .before .before .carries-checksums .ensures) (c .before .before .before .before .before .before .before .before .before .before .before .before .before .before .before .before .version .ensures) (c .before .before .before .before .before .before .before .before .before .before .before .before .before .before .store-2 .ensures) (c .before .before .before .before .before .before .before .before .before .before .store-22 .ensures) (c .before .before .before .before .before .before .write-payload .ensures file)) (c .before .before .store-checksum .ensures)
 
 pub write-envelope-spec : {M : Type 1} → statement M
 write-envelope-spec =
