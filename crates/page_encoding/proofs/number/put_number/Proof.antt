@@ -40,6 +40,7 @@ same-length c = c .before .loop .inv .size
 
 returns : tie.Need-returns Inv-loop μ-loop
 returns c = let a = c .before .before .args in
+    let l = c .before .loop in
     left-none (a .k) (a .x) (a .at) (now (a .out)) (l .out) (l .rest) (l .j) (l .inv) (omega arith)
 
 pub put-number-spec : {M : Type 1} → statement M
