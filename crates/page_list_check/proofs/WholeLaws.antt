@@ -48,6 +48,14 @@ module _ (file entries : ℕ) (parents flags columns table : List ℕ) (n : ℕ)
   pub out-of-order : inColumnOrder n 0 (pageRowsIn table) ≡ false → Number 14
   out-of-order e l o = rw e refl
 
+  -- the order of the rows comes before a refusal that was found first
+  pub order-before : {k r : ℕ} → r ≡ unless (inColumnOrder n 0 (pageRowsIn table)) 14 k → (inColumnOrder n 0 (pageRowsIn table) ≡ true → Number k) → Number r
+  order-before {k} is found = by (inColumnOrder n 0 (pageRowsIn table)) refl is
+    where
+      by : {r : ℕ} (b : Bool) → inColumnOrder n 0 (pageRowsIn table) ≡ b → r ≡ unless b 14 k → Number r
+      by true order e l o = e ∙ found order l o
+      by false order e l o = e ∙ out-of-order order l o
+
   module _ (order : inColumnOrder n 0 (pageRowsIn table) ≡ true) {count : ℕ} (is : count ≡ atMost mostColumns n) where
     abbrev pub pss : List (List PageWords)
     pss = byColumn 0 n (pageRowsIn table)
