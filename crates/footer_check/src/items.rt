@@ -1,6 +1,9 @@
 // The first refusal of the rows of each table.
 use rows::ClusterRow;
 use rows::Link;
+use verdicts::BITS_31;
+use verdicts::BITS_32;
+use verdicts::BITS_60;
 ghost use mathlib.Core.Path.{_≡_};
 ghost use mathlib.Core.List.{[]};
 ghost use Rattle.rows.specs.Words.{clusterWidth, linkWidth};
@@ -8,13 +11,6 @@ ghost use Rattle.rows.specs.Tables.{clusterRow, linkRow};
 ghost use Rattle.writing.specs.Piece.{pieces};
 ghost use Rattle.writing.specs.Rows.{allRows};
 ghost use Rattle.writing.specs.Footer.{linkPiece, checksumPiece, clusterPiece, clusterItem, linkItem};
-
-// The limits of places of so many bits.
-const BITS_31: u64 = 2147483648;
-
-const BITS_32: u64 = 4294967296;
-
-const BITS_60: u64 = 1152921504606846976;
 
 fn link_number(file: u64, link: Link) -> u16
     ensures { λ r. ⌜ r ≡ linkPiece file link .number ⌝ }

@@ -6,14 +6,12 @@ use carried::all_as_carried;
 pub use carried::carries_checksums;
 use items::clusters_number;
 use items::links_number;
-ghost use Prim.Native.Nat.{ℕ, _+_};
+ghost use Prim.Native.Nat.{ℕ};
 ghost use mathlib.Core.Path.{_≡_};
 ghost use Rattle.writing.specs.Rows.{footerRows};
 ghost use Rattle.writing.specs.Footer.{footerPayloadPiece, footerPiece};
 ghost use Rattle.verdicts.specs.Length.{capped};
 ghost use Rattle.footer_check.specs.Sizes.{recordSize};
-
-const CEILING: usize = 1048576;
 
 // All but the rows: versions, feature word, the header's checksum, four heads of lists, and the footer's checksum.
 const FRAME: usize = 52;
@@ -54,7 +52,7 @@ fn payload_number(
 ) -> u16
     ensures { λ r. ⌜ r ≡ footerPayloadPiece carried checksum file (footerRows (now (clusters .entry)) (now (metadata .entry))) .number ⌝ }
 {
-    let named = verdicts::narrow(checksum, 4294967296, 0);
+    let named = verdicts::narrow(checksum, verdicts::BITS_32, 0);
     let cluster_count = verdicts::at_most(
         rows::MOST_CLUSTERS,
         clusters.len() / rows::CLUSTER_WORDS,
@@ -72,7 +70,7 @@ pub fn footer_number(checksum: u64, file: u64, clusters: &[u64], metadata: &[u64
 {
     let carried = carries_checksums(clusters);
     if all_as_carried(carried, clusters) {
-        if footer_long(clusters, metadata) <= CEILING {
+        if footer_long(clusters, metadata) <= verdicts::CEILING {
             return payload_number(carried, checksum, file, clusters, metadata);
         }
         return 1;

@@ -23,7 +23,8 @@ use Rattle.writing.specs.declared.WriteAnswer.the-variants.{Written, Refused}
 use Rattle.writing.proofs.FooterBack.{footer-promised}
 use Rattle.verdicts.specs.Length.{capped}
 use Rattle.verdicts.proofs.Capped.{capped-small}
-use Rattle.stores.proofs.Answers.{Stands, roomless, wrote, header-found}
+use Rattle.stores.specs.Stored.{InFront}
+use Rattle.stores.proofs.Answers.{roomless, wrote, header-found}
 
 -- a footer of which nothing is refused is no longer than an envelope may be
 footer-short : (checksum file : ℕ) (f : Footer) → footerPiece checksum file f .number ≡ 0 → footerPiece checksum file f .long ≤ ceiling
@@ -48,7 +49,7 @@ module _ (checksum file : ℕ) (clusters metadata out : List ℕ) where
     pub footer-roomless : length out < long → Answered 2 (read x) out out (Refused 2 20)
     footer-roomless few = let e = exact in roomless 2 x out fine (omega arith)
 
-    pub footer-written : {out′ : List ℕ} → long ≤ length out → Stands x out out′ → Answered 2 (read x) out out′ (Written long)
+    pub footer-written : {out′ : List ℕ} → long ≤ length out → InFront x out out′ → Answered 2 (read x) out out′ (Written long)
     unfolding FooterPromised
     footer-written {out′} enough stands =
         let e = exact in

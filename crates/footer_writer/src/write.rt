@@ -2,11 +2,9 @@
 use crate::lists::write_cluster_list;
 use crate::lists::write_link_list;
 ghost use mathlib.Core.Path.{_≡_};
-ghost use Prim.Native.Nat.{ℕ, _≤_};
-ghost use lib.ListN.{length};
+ghost use Prim.Native.Nat.{ℕ};
 ghost use Rattle.numbers.specs.Choice.{pick};
-ghost use Rattle.numbers.specs.Rows.{over};
-ghost use Rattle.stores.specs.Stored.{Stored};
+ghost use Rattle.stores.specs.Stored.{Stored, InFront};
 ghost use Rattle.writing.specs.Rows.{footerRows};
 ghost use Rattle.writing.specs.Footer.{footerPayloadPiece, footerPiece};
 
@@ -46,7 +44,7 @@ fn write_payload(
 
 // The envelope, where there is room for it.
 pub fn write_envelope(checksum: u64, clusters: &[u64], metadata: &[u64], out: &mut [u8])
-    ensures { λ _. ⌜ ((file : ℕ) → length (footerPiece checksum file (footerRows (now (clusters .entry)) (now (metadata .entry))) .bytes) ≤ length (now (out .entry)) → now (out .exit) ≡ over (footerPiece checksum file (footerRows (now (clusters .entry)) (now (metadata .entry))) .bytes) (now (out .entry))) ⌝ }
+    ensures { λ _. ⌜ ((file : ℕ) → InFront (footerPiece checksum file (footerRows (now (clusters .entry)) (now (metadata .entry)))) (now (out .entry)) (now (out .exit))) ⌝ }
 {
     let carried = footer_check::carries_checksums(clusters);
     let minimum = stores::store_2(version(carried), 0, out);

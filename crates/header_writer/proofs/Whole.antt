@@ -17,7 +17,8 @@ use Rattle.writing.specs.Promises.{HeaderPromised}
 use Rattle.writing.specs.declared.WriteAnswer.{WriteAnswer}
 use Rattle.writing.specs.declared.WriteAnswer.the-variants.{Written, Refused}
 use Rattle.writing.proofs.HeaderBack.{header-promised}
-use Rattle.stores.proofs.Answers.{Exact, Stands, length-first, long-answer, number-answer, room-answer, written-answer}
+use Rattle.stores.specs.Stored.{InFront}
+use Rattle.stores.proofs.Answers.{Exact, length-first, long-answer, number-answer, room-answer, written-answer}
 use Rattle.stores.proofs.Counting.{counted}
 
 module _ (strings : List ℕ) (named : HeaderTexts) (fields columns aliases out : List ℕ) where
@@ -54,5 +55,5 @@ module _ (strings : List ℕ) (named : HeaderTexts) (fields columns aliases out 
       pub header-roomless : number ≡ 0 → length out < long → Answers out (Refused 1 20)
       header-roomless good few = room-answer 1 x out number (number-is is) long (counted (x .long) long its) short good few
 
-      pub header-written : {out′ : List ℕ} → number ≡ 0 → long ≤ length out → Stands x out out′ → Answers out′ (Written long)
+      pub header-written : {out′ : List ℕ} → number ≡ 0 → long ≤ length out → InFront x out out′ → Answers out′ (Written long)
       header-written good enough stands = written-answer 1 x out number (number-is is) long (counted (x .long) long its) short _ exact good enough stands

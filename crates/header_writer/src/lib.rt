@@ -5,8 +5,6 @@ use records::HeaderTexts;
 use writing::WriteAnswer;
 ghost use Rattle.writing.specs.Answers.{Answered, headerToWrite};
 
-const CEILING: usize = 1048576;
-
 // Writes the header of lent tables, whose strings stand in the lent strings, over the first of the lent bytes. What is refused leaves these as
 // they were; that there is too little room is found last.
 pub fn write_header(
@@ -20,7 +18,7 @@ pub fn write_header(
     ensures { λ r. ⌜ Answered 1 (headerToWrite (now (strings .entry)) texts (now (fields .entry)) (now (columns .entry)) (now (aliases .entry))) (now (out .entry)) (now (out .exit)) r ⌝ }
 {
     let long = header_check::header_long(texts, fields, columns, aliases);
-    if CEILING < long {
+    if verdicts::CEILING < long {
         return WriteAnswer::Refused(1, 1);
     }
     let number = header_check::header_number(strings, texts, fields, columns, aliases);

@@ -4,11 +4,7 @@ use header_stores::write_column_list;
 use header_stores::write_field_list;
 use header_stores::write_text;
 use records::HeaderTexts;
-ghost use mathlib.Core.Path.{_≡_};
-ghost use Prim.Native.Nat.{_≤_};
-ghost use lib.ListN.{length};
-ghost use Rattle.numbers.specs.Rows.{over};
-ghost use Rattle.stores.specs.Stored.{Stored};
+ghost use Rattle.stores.specs.Stored.{Stored, InFront};
 ghost use Rattle.writing.specs.Rows.{headerRows};
 ghost use Rattle.writing.specs.Header.{payloadPiece, headerPiece};
 
@@ -41,8 +37,7 @@ pub fn write_envelope(
     aliases: &[u64],
     out: &mut [u8],
 )
-    ensures { λ _. ⌜ (length (headerPiece (now (strings .entry)) texts (headerRows (now (fields .entry)) (now (columns .entry)) (now (aliases .entry))) .bytes) ≤ length (now (out .entry))
-        → now (out .exit) ≡ over (headerPiece (now (strings .entry)) texts (headerRows (now (fields .entry)) (now (columns .entry)) (now (aliases .entry))) .bytes) (now (out .entry))) ⌝ }
+    ensures { λ _. ⌜ InFront (headerPiece (now (strings .entry)) texts (headerRows (now (fields .entry)) (now (columns .entry)) (now (aliases .entry)))) (now (out .entry)) (now (out .exit)) ⌝ }
 {
     let minimum = stores::store_2(1, 0, out);
     let payload = stores::store_2(1, minimum, out);

@@ -2,7 +2,7 @@
 use wire::Fault;
 use wire::NumberStep;
 ghost use mathlib.Core.Path.{_≡_};
-ghost use Prim.Native.Nat.{_+_, _^_, _<_};
+ghost use Prim.Native.Nat.{_<_};
 ghost use Rattle.numbers.specs.Numbers.{trailer};
 ghost use Rattle.wire.specs.Reading.{tested};
 ghost use Rattle.wire.specs.Answers.{numberStep};

@@ -2,19 +2,53 @@
 use Prim.Native.Nat.{ℕ, suc, _+_, _/_, _≤_, _<_}
 use mathlib.Core.List.{List, [], _∷_}
 use mathlib.Core.Bool.{Bool, true, false}
-use mathlib.Core.Path.{_≡_, refl, sym, ap, subst, _∙_}
+use mathlib.Core.Path.{_≡_, refl, sym, ap, _∙_}
 use native.Mathlib.Numerals.{add-one}
 use native.Mathlib.Omega.{arith}
 use lib.Dec.{ltb, leb, eqb}
-use borrow.Author.Tests.{le-leb, lt-leb, lt-ltb, le-ltb, eq-eqb, ne-eqb}
+use borrow.Author.Tests.{le-leb, lt-leb, lt-ltb, le-ltb, eq-eqb, ne-eqb, eqb-true, eqb-false, leb-true, leb-false}
 use lib.ListN.{length, drop, drop-of-length-le}
-use lib.Seq.{drop-cons}
+use lib.Seq.{drop-cons, drop-drop}
 use Rattle.numbers.specs.Choice.{pick, both}
 use Rattle.rows.proofs.FirstRows.{rows-length, row-at}
 use Rattle.writing.specs.Rows.{pageWordsAt, pageRowsIn}
 use Rattle.writing.specs.PageList.{inColumnOrder}
 use Rattle.writing.specs.declared.PageWords.{PageWords}
 use Rattle.page_list_check.specs.Runs.{leading}
+
+-- a number that is not c is above it where it is not below
+next-least : (c k : ℕ) → (k ≡ c → ⊥) → leb c k ≡ leb (suc c) k
+next-least c k differs = by (leb (suc c) k) refl
+  where
+    by : (b : Bool) → leb (suc c) k ≡ b → leb c k ≡ b
+    by true e = let h = leb-true (suc c) k e in le-leb c k (omega arith)
+    by false e = let h = leb-false (suc c) k e in lt-leb c k (omega arith)
+
+-- no row of n columns stands in order behind the last
+none-behind : (n : ℕ) (p : PageWords) (ps : List PageWords) → inColumnOrder n n (p ∷ ps) ≡ false
+unfolding inColumnOrder
+none-behind n p ps = by (leb n (p .column)) refl
+  where
+    by : (b : Bool) → leb n (p .column) ≡ b → both b (both (ltb (p .column) n) (inColumnOrder n (p .column) ps)) ≡ false
+    by true e = rw (le-ltb (p .column) n (leb-true n (p .column) e)) refl
+    by false e = refl
+
+-- without the run of column c in front, the rows from the next column on decide
+without-run : (n c : ℕ) (rows : List PageWords) → c < n → inColumnOrder n c rows ≡ inColumnOrder n (suc c) (drop (leading c rows) rows)
+unfolding leading inColumnOrder
+without-run n c [] h = refl
+without-run n c (p ∷ ps) h = by (eqb (p .column) c) refl (without-run n c ps h)
+  where
+    by : (b : Bool) → eqb (p .column) c ≡ b → inColumnOrder n c ps ≡ inColumnOrder n (suc c) (drop (leading c ps) ps)
+        → both (leb c (p .column)) (both (ltb (p .column) n) (inColumnOrder n (p .column) ps)) ≡ inColumnOrder n (suc c) (drop (pick b (suc (leading c ps)) 0) (p ∷ ps))
+    by true same rest =
+        let column : p .column ≡ c = eqb-true (p .column) c same in
+        let low : leb c (p .column) ≡ true = le-leb c (p .column) (omega arith) in
+        let high : ltb (p .column) n ≡ true = lt-ltb (p .column) n (omega arith) in
+        rw (low, high) (ap (λ (k : ℕ). inColumnOrder n k ps) column ∙ rest)
+    by false other rest =
+        let differs : p .column ≡ c → ⊥ = eqb-false (p .column) c other in
+        ap (λ (b : Bool). both b (both (ltb (p .column) n) (inColumnOrder n (p .column) ps))) (next-least c (p .column) differs)
 
 module _ (table : List ℕ) where
   -- the rows from row i on
@@ -55,6 +89,25 @@ module _ (table : List ℕ) where
 
       pub names-none : least ≤ column → n ≤ column → false ≡ inColumnOrder n 0 (pageRowsIn table)
       names-none low high = sym (one ∙ rw (le-leb least column low, le-ltb column n high) refl)
+
+    -- the run of a column
+    pub ordered-run : {i c : ℕ} → Ordered n i c → c < n → {e : ℕ} → e ≡ i + leading c (drop i (pageRowsIn table)) → Ordered n e (c + 1)
+    ordered-run {i} {c} m h stop =
+        let rows = pageRowsIn table in
+        record {
+          same = m .same ∙ without-run n c (drop i rows) h
+              ∙ ap (inColumnOrder n (suc c)) (drop-drop (leading c (drop i rows)) i rows)
+              ∙ (λ j. inColumnOrder n (sym (add-one c) j) (drop (sym stop j) rows));
+        }
+
+    -- after the runs of all columns: they are in order where no row is left
+    pub ordered-end : {i c : ℕ} → Ordered n i c → c ≡ n → i ≤ length table / 5 → eqb i (length table / 5) ≡ inColumnOrder n 0 (pageRowsIn table)
+    unfolding inColumnOrder
+    ordered-end {i} {c} m last inside = by (eqb i (length table / 5)) refl ∙ sym (m .same ∙ ap (λ (k : ℕ). inColumnOrder n k (drop i (pageRowsIn table))) last)
+      where
+        by : (b : Bool) → eqb i (length table / 5) ≡ b → b ≡ inColumnOrder n n (drop i (pageRowsIn table))
+        by true e = let all = eqb-true i (length table / 5) e in sym (ap (inColumnOrder n n) (no-rows i (omega arith)))
+        by false e = let some = eqb-false i (length table / 5) e in sym (ap (inColumnOrder n n) (next-row i (omega arith)) ∙ none-behind n (pageWordsAt table i) (drop (i + 1) (pageRowsIn table)))
 
   -- the run of column c that starts with row `first` has the rows up to i
   pub record InRun (c first i : ℕ) : Type 0 where

@@ -9,7 +9,6 @@ use lib.Seq.{length-take-le, take-suc, take-add, take-take, drop-drop, drop-at, 
 use Rattle.rows.specs.Tables.{rowWords, firstRows}
 use Rattle.rows.proofs.FirstRows.{rows-length, row-at}
 use Rattle.writing.specs.Rows.{pageWordsOf, pageWordsAt, pageRowsIn}
-use Rattle.writing.specs.declared.PageWords.{PageWords}
 
 -- what is left of the front of a list
 drop-front : (a n : ℕ) (l : List ℕ) → a ≤ n → n ≤ length l → drop a (take n l) ≡ take (n - a) (drop a l)

@@ -1,29 +1,25 @@
 -- The number of a whole page list, beside a header.
-use Prim.Native.Nat.{ℕ, zero, suc, _≤_}
-use mathlib.Core.List.{List, [], _∷_, map, map-map}
+use Prim.Native.Nat.{ℕ, _≤_}
+use mathlib.Core.List.{List, [], map, map-map}
 use mathlib.Core.Bool.{Bool, true, false}
 use mathlib.Core.Path.{_≡_, refl, sym, ap, _∙_}
 use native.Mathlib.Omega.{arith}
-use lib.Dec.{leb, eqb}
+use lib.Dec.{leb}
 use borrow.Author.Tests.{eq-eqb, leb-true}
 use lib.ListN.{length, take, replicate, length-map}
 use lib.Seq.{take-at}
-use Rattle.numbers.specs.Rows.{over}
 use Rattle.numbers.proofs.Parts.{over-length}
 use Rattle.wire.specs.Reading.{unless}
 use Rattle.wire.proofs.Laws.{passed}
 use Rattle.frames.specs.Frames.{atMost}
-use Rattle.header.specs.Header.{Lists, flagsOf}
-use Rattle.header.specs.Tables.{parentsOf}
+use Rattle.header.specs.Header.{Lists}
 use Rattle.rows.specs.Words.{mostFields, mostColumns}
 use Rattle.rows.specs.Tables.{columnsIn}
-use Rattle.rows.specs.declared.PageRow.{PageRow}
 use Rattle.pages.specs.Pages.{elementsOf}
 use Rattle.column_pages.specs.ColumnPages.{bitsOf, perColumn}
 use Rattle.column_pages.specs.Answers.{bitsIn}
 use Rattle.column_pages.proofs.ColumnLaws.{bits-length}
 use Rattle.totals.specs.Totals.{totals}
-use Rattle.totals.specs.declared.Totals.{Totals}
 use Rattle.page_list.specs.PageList.{totalsOf}
 use Rattle.page_list.specs.Schema.{SchemaOf}
 use Rattle.writing.specs.Piece.{first, listPiece, pieces}
@@ -51,6 +47,14 @@ module _ (file entries : ℕ) (parents flags columns table : List ℕ) (n : ℕ)
 
   pub out-of-order : inColumnOrder n 0 (pageRowsIn table) ≡ false → Number 14
   out-of-order e l o = rw e refl
+
+  -- the order of the rows comes before a refusal that was found first
+  pub order-before : {k r : ℕ} → r ≡ unless (inColumnOrder n 0 (pageRowsIn table)) 14 k → (inColumnOrder n 0 (pageRowsIn table) ≡ true → Number k) → Number r
+  order-before {k} is found = by (inColumnOrder n 0 (pageRowsIn table)) refl is
+    where
+      by : {r : ℕ} (b : Bool) → inColumnOrder n 0 (pageRowsIn table) ≡ b → r ≡ unless b 14 k → Number r
+      by true order e l o = e ∙ found order l o
+      by false order e l o = e ∙ out-of-order order l o
 
   module _ (order : inColumnOrder n 0 (pageRowsIn table) ≡ true) {count : ℕ} (is : count ≡ atMost mostColumns n) where
     abbrev pub pss : List (List PageWords)

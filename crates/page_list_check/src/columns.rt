@@ -13,9 +13,11 @@ ghost use Rattle.writing.specs.PageList.{byColumn, inColumnOrder, columnPagesIt
 ghost use Rattle.page_list_check.specs.Runs.{leading};
 ghost use Rattle.page_list_check.specs.Checks.{AllSummed};
 
-// The first refusal of the pages of each column, and how many elements each column has where there is none.
+// The first refusal of the pages of each column; where there is none, whether each row was met in the order of the columns, and how many
+// elements each column has.
 pub struct ColumnSums {
     pub number: u16,
+    pub ordered: bool,
     pub elements: [u64; rows::MOST_COLUMNS],
 }
 
@@ -57,11 +59,12 @@ pub fn run_end(pages: &[u64], column: ColumnNumber, first: usize) -> usize
     i
 }
 
-// The pages of n columns, which stand in the order of their columns.
+// The pages of n columns, where their rows stand in the order of the columns. Where none is refused, this pass tells that too: the runs of the
+// columns, one after the other, have each row.
 pub fn columns_check(columns: &[u64], n: usize, file: u64, pages: &[u64]) -> ColumnSums
     requires { ⌜ n ≤ mostColumns ⌝ }
-    requires { ⌜ inColumnOrder n 0 (pageRowsIn (now pages)) ≡ true ⌝ }
-    ensures { λ r. ⌜ AllSummed (pieces (columnPagesItem file (bitsIn (now (columns .entry)) n)) [] (byColumn 0 n (pageRowsIn (now (pages .entry)))) .number) (byColumn 0 n (pageRowsIn (now (pages .entry)))) r ⌝ }
+    ensures { λ r. ⌜ (r .number ≡ 0 → r .ordered ≡ inColumnOrder n 0 (pageRowsIn (now (pages .entry)))) ⌝ }
+    ensures { λ r. ⌜ (inColumnOrder n 0 (pageRowsIn (now (pages .entry))) ≡ true → AllSummed (pieces (columnPagesItem file (bitsIn (now (columns .entry)) n)) [] (byColumn 0 n (pageRowsIn (now (pages .entry)))) .number) (byColumn 0 n (pageRowsIn (now (pages .entry)))) r) ⌝ }
 {
     let mut elements = [0u64; rows::MOST_COLUMNS];
     let mut first = 0;
@@ -75,7 +78,11 @@ pub fn columns_check(columns: &[u64], n: usize, file: u64, pages: &[u64]) -> Col
         let sum = crate::page::column_check(part, bits, file, first);
         let number = sum.number;
         if number != 0 {
-            return ColumnSums { number, elements };
+            return ColumnSums {
+                number,
+                ordered: false,
+                elements,
+            };
         }
         elements[i] = sum.elements;
         first = end;
@@ -83,6 +90,7 @@ pub fn columns_check(columns: &[u64], n: usize, file: u64, pages: &[u64]) -> Col
     }
     ColumnSums {
         number: 0,
+        ordered: first == pages.len() / rows::PAGE_WORDS,
         elements,
     }
 }

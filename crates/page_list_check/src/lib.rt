@@ -45,8 +45,18 @@ fn totals_number(
     }
 }
 
+// The number of a refusal that was found before the order of the rows was asked for, which comes first.
+fn order_first(pages: &[u64], n: usize, number: u16) -> u16
+    ensures { λ r. ⌜ r ≡ unless (inColumnOrder n 0 (pageRowsIn (now (pages .entry)))) 14 number ⌝ }
+{
+    if columns::in_order(pages, n) {
+        return number;
+    }
+    14
+}
+
 // The first refusal of a page list that is short enough, beside a header: `parents` and `flags` have a word of each field, `columns` has a row of
-// each of n columns.
+// each of n columns. The order of the rows is asked for alone only where something is refused.
 pub fn page_list_number(
     parents: &[u16],
     flags: &[u64],
@@ -58,16 +68,16 @@ pub fn page_list_number(
 ) -> u16
     ensures { λ r. ⌜ ((l : Lists) → SchemaOf l (now (parents .entry)) (now (flags .entry)) (now (columns .entry)) n → r ≡ first (unless (inColumnOrder n 0 (pageRowsIn (now (pages .entry)))) 14 (pageListPayloadPiece file (bitsOf (l .columns)) (byColumn 0 n (pageRowsIn (now (pages .entry)))) .number)) (totalsNumber (totalsOf entries l (pagesSay n (pageRowsIn (now (pages .entry))))))) ⌝ }
 {
-    if columns::in_order(pages, n) {
-        let count = verdicts::at_most(rows::MOST_COLUMNS, n);
-        if count != 0 {
-            return count;
-        }
-        let sums = columns::columns_check(columns, n, file, pages);
-        let number = sums.number;
-        if number != 0 {
-            return number;
-        }
+    let count = verdicts::at_most(rows::MOST_COLUMNS, n);
+    if count != 0 {
+        return order_first(pages, n, count);
+    }
+    let sums = columns::columns_check(columns, n, file, pages);
+    let number = sums.number;
+    if number != 0 {
+        return order_first(pages, n, number);
+    }
+    if sums.ordered {
         let elements = sums.elements;
         return totals_number(entries, parents, flags, columns, n, &elements[..n]);
     }

@@ -37,11 +37,11 @@ fn page_number(page: PageWords, bits: u16, file: u64) -> u16
 {
     let elements = page.elements;
     let bit = page.bit;
-    if elements < 1073741824 {
+    if elements < verdicts::BITS_30 {
         if bit < 2 {
             let size = page.size;
             let due = pages::size_of(elements as u32, bits);
-            let stored = verdicts::narrow(size, 2147483648, locator::stored_as(due, size));
+            let stored = verdicts::narrow(size, verdicts::BITS_31, locator::stored_as(due, size));
             let behind = numbers::trailer_size(bit == 1) as u64;
             return verdicts::first(stored, locator::in_file(file, size, behind, page.offset));
         }

@@ -11,7 +11,7 @@ use Rattle.tree.specs.Bytes.{spelled}
 use Rattle.stores.specs.Stored.{Stored}
 use Rattle.stores.proofs.Storing.{stored-as}
 use Rattle.stores.proofs.Laid.{Laid, laid-none, laid-more, laid-all}
-use Rattle.writing.specs.Piece.{Piece, pieces, listPiece}
+use Rattle.writing.specs.Piece.{pieces, listPiece}
 use Rattle.writing.specs.Rows.{pageRowsIn}
 use Rattle.writing.specs.PageList.{byColumn, inColumnOrder, pagesIn, pageItem, columnPagesItem}
 use Rattle.writing.specs.declared.PageWords.{PageWords}

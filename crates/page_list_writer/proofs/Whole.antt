@@ -1,7 +1,7 @@
 -- What is answered about a page list.
 use Prim.Native.Nat.{ℕ, _+_, _*_, _/_, _≤_, _<_}
 use mathlib.Core.List.{List}
-use mathlib.Core.Bool.{Bool, true, false}
+use mathlib.Core.Bool.{true}
 use mathlib.Core.Path.{_≡_, refl, sym, ap, subst, _∙_}
 use native.Mathlib.Omega.{arith}
 use lib.ListN.{length}
@@ -9,7 +9,7 @@ use lib.Dec.{leb}
 use Rattle.wire.specs.Reading.{unless}
 use Rattle.wire.proofs.Laws.{passed}
 use Rattle.envelope.specs.Envelope.{ceiling}
-use Rattle.header.specs.Header.{Lists, Header}
+use Rattle.header.specs.Header.{Header}
 use Rattle.header.specs.Beside.{read}
 use Rattle.rows.specs.Tables.{columnRow}
 use Rattle.rows.proofs.FirstRows.{rows-length}
@@ -27,7 +27,8 @@ use Rattle.writing.specs.declared.WriteAnswer.the-variants.{Written, Refused}
 use Rattle.writing.proofs.Sure.{first-none}
 use Rattle.writing.proofs.PageListBack.{page-list-promised}
 use Rattle.page_list_check.proofs.WholeLaws.{Number}
-use Rattle.stores.proofs.Answers.{Exact, Stands, length-first, long-answer, number-answer, room-answer, written-answer}
+use Rattle.stores.specs.Stored.{InFront}
+use Rattle.stores.proofs.Answers.{Exact, length-first, long-answer, number-answer, room-answer, written-answer}
 use Rattle.stores.proofs.Counting.{counted}
 
 module _ (entries file : ℕ) (parents flags columns table out : List ℕ) (n : ℕ) (h : Header) (o : SchemaOf (h .lists) parents flags columns n) where
@@ -66,9 +67,9 @@ module _ (entries file : ℕ) (parents flags columns table out : List ℕ) (n : 
   in-order e good = passed (inColumnOrder n 0 (pageRowsIn table)) 13 _ (first-none _ _ (sym e ∙ good) .0) .0
 
   -- the bytes are those of so many columns
-  stands-there : {out′ : List ℕ} → Stands (enveloped 1 1 (pageListPayloadPiece file bits (byColumn 0 n (pageRowsIn table)))) out out′ → Stands x out out′
+  stands-there : {out′ : List ℕ} → InFront (enveloped 1 1 (pageListPayloadPiece file bits (byColumn 0 n (pageRowsIn table)))) out out′ → InFront x out out′
   unfolding pageListPiece
-  stands-there {out′} s = subst (λ (k : ℕ). Stands (enveloped 1 1 (pageListPayloadPiece file bits (byColumn 0 k (pageRowsIn table)))) out out′) count s
+  stands-there {out′} s = subst (λ (k : ℕ). InFront (enveloped 1 1 (pageListPayloadPiece file bits (byColumn 0 k (pageRowsIn table)))) out out′) count s
 
   module _ {long : ℕ} (its : long ≡ capped (16 + (n * 8 + length table / 5 * 16))) where
     long-is : long ≡ capped (x .long)
@@ -89,7 +90,7 @@ module _ (entries file : ℕ) (parents flags columns table out : List ℕ) (n : 
       list-roomless good few = room-answer 3 x out number (number-is (is (h .lists) o)) long (counted (x .long) long long-is) short good few
 
       pub list-written : {out′ : List ℕ} → number ≡ 0 → long ≤ length out
-          → (inColumnOrder n 0 (pageRowsIn table) ≡ true → (file : ℕ) (bits : List ℕ) → Stands (enveloped 1 1 (pageListPayloadPiece file bits (byColumn 0 n (pageRowsIn table)))) out out′)
+          → (inColumnOrder n 0 (pageRowsIn table) ≡ true → (file : ℕ) (bits : List ℕ) → InFront (enveloped 1 1 (pageListPayloadPiece file bits (byColumn 0 n (pageRowsIn table)))) out out′)
           → Answers out′ (Written long)
       list-written {out′} good enough stands =
           written-answer 3 x out number (number-is (is (h .lists) o)) long (counted (x .long) long long-is) short out′ exact good enough (stands-there (stands (in-order (is (h .lists) o) good) file bits))

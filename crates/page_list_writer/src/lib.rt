@@ -10,8 +10,6 @@ ghost use Rattle.writing.specs.Rows.{pageRowsIn};
 ghost use Rattle.writing.specs.PageList.{pageListPiece};
 ghost use Rattle.writing.specs.Answers.{Answered, pageListToWrite};
 
-const CEILING: usize = 1048576;
-
 // Writes the page list of a lent table (5 words to a page) beside a header, over the first of the lent bytes. What is refused leaves these as
 // they were.
 pub fn write_page_list(
@@ -61,7 +59,7 @@ fn write_beside(
     ensures { λ r. ⌜ ((h : Header) → SchemaOf (h .lists) (now (parents .entry)) (now (flags .entry)) (now (columns .entry)) n → Answered 3 (read (pageListPiece h entries file (pageRowsIn (now (pages .entry))))) (now (out .entry)) (now (out .exit)) r) ⌝ }
 {
     let long = page_list_check::page_list_long(n, pages.len() / rows::PAGE_WORDS);
-    if CEILING < long {
+    if verdicts::CEILING < long {
         return WriteAnswer::Refused(3, 1);
     }
     let number = page_list_check::page_list_number(

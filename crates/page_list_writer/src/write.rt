@@ -5,10 +5,8 @@ ghost use mathlib.Core.Path.{_≡_};
 ghost use mathlib.Core.Bool.{true};
 ghost use mathlib.Core.List.{List, []};
 ghost use Prim.Native.Nat.{ℕ, _≤_};
-ghost use lib.ListN.{length};
 ghost use Rattle.pages.specs.Pages.{runningTotal};
-ghost use Rattle.stores.specs.Stored.{Stored};
-ghost use Rattle.stores.proofs.Answers.{Stands};
+ghost use Rattle.stores.specs.Stored.{Stored, InFront};
 ghost use Rattle.writing.specs.Piece.{pieces, listPiece, enveloped};
 ghost use Rattle.writing.specs.Rows.{pageRowsIn};
 ghost use Rattle.writing.specs.PageList.{pagePiece, pageItem, byColumn, inColumnOrder, columnPagesItem, pageListPayloadPiece};
@@ -77,7 +75,7 @@ fn write_payload(pages: &[u64], n: usize, at: usize, out: &mut [u8]) -> usize
 
 // The envelope, where there is room for it.
 pub fn write_envelope(pages: &[u64], n: usize, out: &mut [u8])
-    ensures { λ _. ⌜ (inColumnOrder n 0 (pageRowsIn (now (pages .entry))) ≡ true → (file : ℕ) (bits : List ℕ) → Stands (enveloped 1 1 (pageListPayloadPiece file bits (byColumn 0 n (pageRowsIn (now (pages .entry)))))) (now (out .entry)) (now (out .exit))) ⌝ }
+    ensures { λ _. ⌜ (inColumnOrder n 0 (pageRowsIn (now (pages .entry))) ≡ true → (file : ℕ) (bits : List ℕ) → InFront (enveloped 1 1 (pageListPayloadPiece file bits (byColumn 0 n (pageRowsIn (now (pages .entry)))))) (now (out .entry)) (now (out .exit))) ⌝ }
 {
     let minimum = stores::store_2(1, 0, out);
     let payload = stores::store_2(1, minimum, out);

@@ -17,6 +17,7 @@ use Rattle.writing.specs.Piece.{Piece, first, testedLast, enveloped}
 use Rattle.writing.specs.Answers.{Answered, verdict, answer, left, besideHeader, outcomeOf}
 use Rattle.writing.specs.declared.WriteAnswer.{WriteAnswer}
 use Rattle.writing.specs.declared.WriteAnswer.the-variants.{Written, Refused}
+use Rattle.stores.specs.Stored.{InFront}
 
 -- a length that was counted up to the ceiling: n itself where it is not above that, else anything above
 pub record Counted (n long : ℕ) : Type 0 where
@@ -26,10 +27,6 @@ pub record Counted (n long : ℕ) : Type 0 where
 -- the bytes of a piece are as many as it says, where nothing of it is refused
 abbrev pub Exact : Piece → Type 0
 Exact x = x .number ≡ 0 → length (x .bytes) ≡ x .long
-
--- the bytes of a piece stand in front, where there is room for them
-abbrev pub Stands : Piece → List ℕ → List ℕ → Type 0
-Stands x out out′ = length (x .bytes) ≤ length out → out′ ≡ over (x .bytes) out
 
 -- the length of an envelope comes before what is tested last
 pub length-first : (version minimum : ℕ) (y : Piece) (n : ℕ) → testedLast (enveloped version minimum y) n .number ≡ unless (leb (8 + y .long) ceiling) 1 (first (y .number) n)
@@ -89,7 +86,7 @@ module _ (k : ℕ) (x : Piece) (out : List ℕ) where
       pub room-answer : n ≡ 0 → length out < long → Answered k (read x) out out (Refused k 20)
       room-answer good few = let e = exact in roomless (sym number-is ∙ good) (omega arith)
 
-      pub written-answer : (out′ : List ℕ) → Exact x → n ≡ 0 → long ≤ length out → Stands x out out′ → Answered k (read x) out out′ (Written long)
+      pub written-answer : (out′ : List ℕ) → Exact x → n ≡ 0 → long ≤ length out → InFront x out out′ → Answered k (read x) out out′ (Written long)
       written-answer out′ same good enough stands =
           let e = exact in
           let fine = sym number-is ∙ good in

@@ -1,11 +1,10 @@
 // Lengths, counted up to one more than an envelope's ceiling, so that no sum can wrap.
+use crate::CEILING;
 ghost use mathlib.Core.Path.{_≡_};
 ghost use Prim.Native.Nat.{_+_, _*_};
 ghost use Rattle.verdicts.specs.Length.{capped};
 
-const CEILING: usize = 1048576;
-
-const TOO_LONG: usize = 1048577;
+const TOO_LONG: usize = CEILING + 1;
 
 // A length with so much more.
 pub fn grown(total: usize, more: usize) -> usize

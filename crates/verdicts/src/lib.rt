@@ -11,11 +11,19 @@ ghost use Rattle.wire.specs.Reading.{unless};
 ghost use Rattle.frames.specs.Frames.{atMost};
 ghost use Rattle.writing.specs.Piece.{first, text};
 
-// The first number that is too wide for a place of 16 bits, and for one of 32 bits.
-
+// The first number that is too wide for a place of so many bits.
 pub const BITS_16: u64 = 65536;
 
+pub const BITS_30: u64 = 1073741824;
+
+pub const BITS_31: u64 = 2147483648;
+
 pub const BITS_32: u64 = 4294967296;
+
+pub const BITS_60: u64 = 1152921504606846976;
+
+// The most bytes of an envelope.
+pub const CEILING: usize = 1048576;
 
 // Refuses a string that does not lie in the lent strings.
 const OUTSIDE: u16 = 7;

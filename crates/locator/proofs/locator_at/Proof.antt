@@ -1,5 +1,3 @@
-use mathlib.Core.Path.{sym, ap, _∙_}
-use Rattle.wire.specs.Answers.{numberStep}
 use Rattle.locator.specs.Locator.{locator}
 use borrow.Author.Needs.{needs}
 use Rattle.locator.proofs.locator_at.Statement.{statement}
