@@ -5,7 +5,7 @@ use mathlib.Core.Path.{_≡_, refl, sym, ap, _∙_}
 use native.Mathlib.Omega.{arith}
 use borrow.Author.Tests.{lt-ltb}
 use lib.ListN.{length, getD, take, drop, length-drop}
-use lib.Seq.{length-take-le, take-suc, take-add, take-take, drop-drop, drop-at, getD-drop}
+use lib.Seq.{length-take-le, take-suc, take-all, take-add, take-take, drop-drop, drop-at, getD-drop}
 use Rattle.rows.specs.Tables.{rowWords, firstRows}
 use Rattle.rows.proofs.FirstRows.{rows-length, row-at}
 use Rattle.writing.specs.Rows.{pageWordsOf, pageWordsAt, pageRowsIn}
@@ -15,6 +15,16 @@ drop-front : (a n : ℕ) (l : List ℕ) → a ≤ n → n ≤ length l → drop 
 drop-front a n l few h =
     let whole : n ≡ a + (n - a) = omega arith in
     ap (λ (k : ℕ). drop a (take k l)) whole ∙ ap (drop a) (take-add a (n - a) l) ∙ drop-at (take a l) (take (n - a) (drop a l)) a (length-take-le a l (omega arith))
+
+-- the first k rows of a table
+pub front-rows : (table : List ℕ) (k : ℕ) → k ≤ length table / 5 → firstRows pageWordsAt table k ≡ take k (pageRowsIn table)
+unfolding firstRows
+front-rows table zero h = refl
+front-rows table (suc k) h =
+    let rows = pageRowsIn table in
+    let many = rows-length pageWordsAt table (length table / 5) in
+    let d = pageWordsAt table 0 in
+    (λ j. front-rows table k (omega arith) j ++ (sym (row-at pageWordsAt table (length table / 5) k d (omega arith)) j ∷ [])) ∙ sym (take-suc rows k d (omega arith))
 
 module _ (table : List ℕ) (i e : ℕ) (some : i ≤ e) (inside : e ≤ length table / 5) where
   abbrev part : List ℕ
@@ -50,3 +60,10 @@ module _ (table : List ℕ) (i e : ℕ) (some : i ≤ e) (inside : e ≤ length 
       let long = part-long in
       let count : length part / 5 ≡ e - i = omega arith in
       ap (firstRows pageWordsAt part) count ∙ some-rows (e - i) (omega arith)
+
+-- the rows from i on
+pub rest-rows : (table : List ℕ) (i : ℕ) → i ≤ length table / 5 → pageRowsIn (take (5 * (length table / 5) - 5 * i) (drop (5 * i) table)) ≡ drop i (pageRowsIn table)
+rest-rows table i inside =
+    let rows = pageRowsIn table in
+    let many = rows-length pageWordsAt table (length table / 5) in
+    part-rows table i (length table / 5) inside (omega arith) ∙ take-all (length table / 5 - i) (drop i rows) (omega (arith, length-drop i rows))

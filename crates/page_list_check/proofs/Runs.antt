@@ -16,7 +16,7 @@ use Rattle.writing.specs.Rows.{pageWordsAt, pageRowsIn}
 use Rattle.writing.specs.PageList.{ofColumn, byColumn, inColumnOrder, pagesIn}
 use Rattle.writing.specs.declared.PageWords.{PageWords}
 use Rattle.writing.proofs.ColumnOrder.{first-row, none-below}
-use Rattle.page_list_check.specs.Runs.{leading, columnAt}
+use Rattle.page_list_check.specs.Runs.{leading, run, columnAt}
 use Rattle.page_list_check.proofs.Parts.{part-rows}
 
 pub leading-few : (c : ℕ) (rows : List PageWords) → leading c rows ≤ length rows
@@ -27,6 +27,9 @@ leading-few c (p ∷ ps) = by (eqb (p .column) c) (leading-few c ps)
     by : (b : Bool) → leading c ps ≤ length ps → pick b (suc (leading c ps)) 0 ≤ suc (length ps)
     by true h = omega arith
     by false h = omega arith
+
+pub run-long : (c : ℕ) (rows : List PageWords) → length (run c rows) ≡ leading c rows
+run-long c rows = length-take-le (leading c rows) rows (leading-few c rows)
 
 -- the first k rows are those of column c, and no later column has any of them
 record Cut (n c : ℕ) (rows : List PageWords) (k : ℕ) : Type 0 where
@@ -103,27 +106,31 @@ module _ (table : List ℕ) where
     rows : List PageWords
     rows = pageRowsIn table
 
-    run : Cut n c (drop i rows) (leading c (drop i rows))
+    its-run : Cut n c (drop i rows) (leading c (drop i rows))
     unfolding rows
-    run = cut n c (drop i rows) (m .order)
+    its-run = cut n c (drop i rows) (m .order)
 
     -- its rows are those of the column
+    pub run-front : run c (drop i (pageRowsIn table)) ≡ columnAt table c
+    unfolding rows
+    run-front = its-run .front ∙ sym (m .later c (omega arith))
+
     pub run-rows : pageRowsIn (take (5 * e - 5 * i) (drop (5 * i) table)) ≡ columnAt table c
     unfolding rows
     run-rows =
         let many : e - i ≡ leading c (drop i rows) = omega arith in
-        part-rows table i e (run-fits c i e (m .inside) stop .0) (run-fits c i e (m .inside) stop .1) ∙ ap (λ (k : ℕ). take k (drop i rows)) many ∙ run .front ∙ sym (m .later c (omega arith))
+        part-rows table i e (run-fits c i e (m .inside) stop .0) (run-fits c i e (m .inside) stop .1) ∙ ap (λ (k : ℕ). take k (drop i rows)) many ∙ run-front
 
     pub reached-more : Reached n (c + 1) e
     unfolding rows firstRows
     reached-more =
         let next : c + 1 ≡ suc c = add-one c in
         let long : length (columnAt table c) ≡ leading c (drop i rows) =
-        ap length (m .later c (omega arith) ∙ sym (run .front)) ∙ length-take-le (leading c (drop i rows)) (drop i rows) (leading-few c (drop i rows)) in
+        ap length (m .later c (omega arith) ∙ sym (its-run .front)) ∙ run-long c (drop i rows) in
         let rest : drop (leading c (drop i rows)) (drop i rows) ≡ drop e rows = drop-drop (leading c (drop i rows)) i rows ∙ ap (λ (k : ℕ). drop k rows) (sym stop) in
         record {
           inside = run-fits c i e (m .inside) stop .1;
           before = ap (λ (k : ℕ). pagesIn (firstRows columnAt table k)) next ∙ pages-snoc (firstRows columnAt table c) (columnAt table c) ∙ omega (arith, m .before, long, stop);
-          order = ap (λ (k : ℕ). inColumnOrder n k (drop e rows)) next ∙ ap (inColumnOrder n (suc c)) (sym rest) ∙ run .order;
-          later = λ d h. m .later d (omega arith) ∙ run .later d (omega arith) ∙ ap (ofColumn d) rest;
+          order = ap (λ (k : ℕ). inColumnOrder n k (drop e rows)) next ∙ ap (inColumnOrder n (suc c)) (sym rest) ∙ its-run .order;
+          later = λ d h. m .later d (omega arith) ∙ its-run .later d (omega arith) ∙ ap (ofColumn d) rest;
         }

@@ -2,6 +2,7 @@
 use Prim.Native.Nat.{ℕ, suc}
 use mathlib.Core.List.{List, [], _∷_}
 use lib.Dec.{eqb}
+use lib.ListN.{take}
 use Rattle.numbers.specs.Choice.{pick}
 use Rattle.writing.specs.Rows.{pageRowsIn}
 use Rattle.writing.specs.PageList.{ofColumn}
@@ -11,6 +12,10 @@ use Rattle.writing.specs.declared.PageWords.{PageWords}
 unfoldable pub leading : ℕ → List PageWords → ℕ
 leading c [] = 0
 leading c (p ∷ ps) = pick (eqb (p .column) c) (suc (leading c ps)) 0
+
+-- these rows
+abbrev pub run : ℕ → List PageWords → List PageWords
+run c rows = take (leading c rows) rows
 
 -- the rows of column c of a table
 abbrev pub columnAt : List ℕ → ℕ → List PageWords

@@ -2,7 +2,6 @@
 mod columns;
 mod page;
 
-pub use columns::run_end;
 pub use page::page_words;
 use totals::Totals;
 ghost use mathlib.Core.Path.{_≡_};
