@@ -1,7 +1,5 @@
 -- `fit` answers the smaller number.
-use Prim.Native.Nat.{_≤_}
-use mathlib.Core.Path.{_≡_, refl, sym}
-use native.Mathlib.Omega.{arith}
+use mathlib.Core.Path.{sym}
 use native.Mathlib.Nat.{le-refl, le-of-lt, min-eq-left, min-eq-right}
 use lib.Seq.{length-take-le}
 use Rattle.cases.proofs.fit.Statement.{statement}

@@ -8,31 +8,23 @@ use Rattle.cases.specs.Words.{wordAt}
 use borrow.Author.Needs.{needs}
 use Rattle.cases.proofs.word_at.Statement.{statement}
 use Rattle.cases.proofs.word_at.Tie as tie
-use Rattle.cases.proofs.word_at.Reads as reads
-use Rattle.cases.proofs.word_at.Lts as lts
-use Rattle.numbers.proofs.little_8.Reads as little-8-reads
 
 below : (i n : ℕ) → 0 < n → i % n < n
 below i n h = mod-lt i h
 
--- src/lib.rt:43:9
 returns : tie.Need-returns
 unfolding wordAt
 returns c = simp (eq-eqb _ _ (c .if1 .taken))
 
--- src/lib.rt:45:30
 rem-little-8 : tie.Need-rem-little-8
 rem-little-8 c = search needs
 
--- src/lib.rt:45:30
 mul-little-8 : tie.Need-mul-little-8
 mul-little-8 c = omega (arith, below (c .before .before .args .i) (length (c .before .before .args .bytes .now) / 8) (omega arith))
 
--- src/lib.rt:45:5
 little-8-requires : tie.Need-little-8-requires
 little-8-requires c κs = search needs
 
--- src/lib.rt:38:1
 returns-2 : tie.Need-returns-2
 unfolding wordAt
 returns-2 c = simp (ne-eqb _ _ (c .before .if1 .left)) (c .little-8 .ensures .is)
