@@ -9,9 +9,7 @@ from parts import EMPTY, LONGEST, NONE, TOO_SHORT, checksum_of, envelope, flippe
 
 CASES = []  # (name, bytes, what is printed)
 
-
-# The parts of an envelope.
-
+# The records of a header, and the header.
 
 SPARE = b"\xff"
 

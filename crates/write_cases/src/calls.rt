@@ -117,36 +117,56 @@ fn write(case: [u64; 15], first: &[u8], bytes: &[u8], out: &mut [u8], result: &m
     let fields = take_table(bytes, start, case[GIVEN], case[LENT], &mut a);
     let columns = take_table(bytes, second, case[GIVEN_SECOND], case[LENT_SECOND], &mut b);
     let aliases = take_table(bytes, third, case[GIVEN_THIRD], case[LENT_THIRD], &mut c);
+    write_tables(
+        case,
+        first,
+        &a[..fields],
+        &b[..columns],
+        &c[..aliases],
+        out,
+        result,
+    )
+}
+
+// The tables of a header; those of a footer are the first two, and that of a page list is the first.
+fn write_tables(
+    case: [u64; 15],
+    first: &[u8],
+    fields: &[u64],
+    columns: &[u64],
+    aliases: &[u64],
+    out: &mut [u8],
+    result: &mut [u64],
+) -> u32 {
+    let file_length = case[FILE_LENGTH];
     match case[CALLED] {
-        1 => exports::rnt_write_header(
-            first,
-            case[NAME_PLACE],
-            case[NAME_LENGTH],
-            case[DESCRIPTION_PLACE],
-            case[DESCRIPTION_LENGTH],
-            &a[..fields],
-            &b[..columns],
-            &c[..aliases],
-            out,
-            result,
-        ),
-        2 => exports::rnt_write_footer(
-            first,
-            case[FILE_LENGTH],
-            &a[..fields],
-            &b[..columns],
-            out,
-            result,
-        ),
-        _ => exports::rnt_write_page_list(
-            first,
-            case[ENTRIES],
-            case[FILE_LENGTH],
-            &a[..fields],
-            out,
-            result,
-        ),
+        1 => write_header(case, first, fields, columns, aliases, out, result),
+        2 => exports::rnt_write_footer(first, file_length, fields, columns, out, result),
+        _ => exports::rnt_write_page_list(first, case[ENTRIES], file_length, fields, out, result),
     }
+}
+
+fn write_header(
+    case: [u64; 15],
+    strings: &[u8],
+    fields: &[u64],
+    columns: &[u64],
+    aliases: &[u64],
+    out: &mut [u8],
+    result: &mut [u64],
+) -> u32 {
+    exports::rnt_write_header(
+        strings,
+        case[NAME_PLACE],
+        case[NAME_LENGTH],
+        case[DESCRIPTION_PLACE],
+        case[DESCRIPTION_LENGTH],
+        fields,
+        columns,
+        aliases,
+        out,
+        result,
+    )
 }
 
 // Takes a table from a case, and answers how many words are lent of it.
