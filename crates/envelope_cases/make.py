@@ -3,49 +3,16 @@
 Each case has its bytes and the answer that documents 01 and 02 give for them, both written by hand: nothing here reads an envelope or a page."""
 
 import os
-import shutil
-import struct
 import zlib
 
-HERE = os.path.dirname(os.path.abspath(__file__))
+from parts import EMPTY, LONGEST, NONE, TOO_SHORT, checksum_of, envelope, flipped, items, page_bytes, record, string, table, u16, u32, u64, words_of, write_files
+
 CASES = []  # (name, bytes, what is printed)
 
 
 # The parts of an envelope.
 
 
-def u16(n):
-    return struct.pack("<H", n)
-
-
-def u32(n):
-    return struct.pack("<I", n)
-
-
-def u64(n):
-    return struct.pack("<Q", n)
-
-
-def envelope(payload, version=1, minimum=1):
-    content = u16(version) + u16(minimum) + payload
-    return content + u32(zlib.crc32(content))
-
-
-def string(text=b""):
-    return u32(len(text)) + text
-
-
-def record(content):
-    return struct.pack("<i", 4 + len(content)) + content
-
-
-def items(members, more=0, count=None, spare=b""):
-    """A list frame; `more` is how much its size says beside what it has, and `count` is given where it is not the number of members."""
-    content = b"".join(members) + spare
-    return struct.pack("<i", -(8 + len(content) + more)) + u32(len(members) if count is None else count) + content
-
-
-EMPTY = items([])
 SPARE = b"\xff"
 
 
@@ -63,10 +30,6 @@ def header(fields=(), columns=(), aliases=(), name=b"", description=b"", feature
     return envelope(features + string(name) + string(description) + lists + spare, version, minimum)
 
 
-def flipped(content, place):
-    return content[:place] + bytes([content[place] ^ 0x01]) + content[place + 1 :]
-
-
 # The cases. Each word of a lent table is 9 before the call, each byte of words that a page is decoded to 9 too, and each byte of a lent page EE;
 # a refusal leaves them so.
 
@@ -76,12 +39,7 @@ NINES = 0x0909090909090909
 def case(called, name, line, number_1=0, number_2=0, words=(), page_room=0, first=b"", second=b"", zeros_for=0, zeros=0):
     lent = list(words) + [0] * (3 - len(words))
     numbers = [called, number_1, number_2, *lent, page_room, len(first), zeros_for, zeros]
-    CASES.append((name, b"".join(u64(n) for n in numbers) + first + second, line))
-
-
-def table(words, rows=(), old=9):
-    """How a lent table of so many words is printed, with these words in front."""
-    return " |" + "".join(f" {w}" for w in list(rows) + [old] * (words - len(rows)))
+    CASES.append((name, words_of(numbers) + first + second, line))
 
 
 def kept(words):
@@ -90,7 +48,6 @@ def kept(words):
 
 SMALLEST = header()
 assert len(SMALLEST) == 48
-LONGEST = 1048576
 # So many zeros are an envelope whose checksum differs, and no more than that.
 assert zlib.crc32(bytes(LONGEST - 4)) != 0
 
@@ -134,7 +91,6 @@ header_refused(14, "header_parent_before_characters", header([field(1, name=b"\x
 
 # The sum over all fields of the moves from the field to its self-parented top. The words lent are those of the result: the first gets the
 # sum, 0 for a refused header, and those behind it are kept. Where none is lent the code is 4294967295, whatever the header is.
-TOO_SHORT = 4294967295
 
 
 def walked(parents):
@@ -277,18 +233,10 @@ def link(size, offset, stored=None):
     return u32(size) + u32(size if stored is None else stored) + u64(offset)
 
 
-# In the row of a cluster whose footer carries no checksums of page lists.
-NONE = 1 << 32
-
-
 def cluster(first_entry, entries, page_list=link(0, 0), checksum=None, spare=b""):
     """`checksum` is that of the page list, which footers of version 2 and above carry."""
     carried = b"" if checksum is None else u32(checksum)
     return record(u64(first_entry) + u64(entries) + page_list + carried + spare)
-
-
-def checksum_of(content):
-    return content[-4:]
 
 
 FEATURES = u64(0)
@@ -792,7 +740,7 @@ nineteen("decode_64_bits_split_19", 0x13, 8)
 
 
 def placed(name, number, plane, old, new):
-    case(7, name, table(len(old), new), number, words=(len(old),), first=b"".join(u64(w) for w in old), second=plane)
+    case(7, name, table(len(old), new), number, words=(len(old),), first=words_of(old), second=plane)
 
 
 WORDS = [0x1122334455667788, 0x99AABBCCDDEEFF00, 2**64 - 1]
@@ -813,12 +761,8 @@ for number in range(8):
 
 
 def encode(name, column_type, values, elements, start, room, checksum, line):
-    content = b"".join(u64(v) for v in values)
+    content = words_of(values)
     case(5, name, line, column_type, elements, (len(values), start, checksum), room, first=content)
-
-
-def page_bytes(room, content=b""):
-    return " |" + "".join(f" {b:02x}" for b in content + b"\xee" * (room - len(content)))
 
 
 def encoded(name, column_type, values, content, elements=None, start=0, room=None, checksum=0):
@@ -866,18 +810,5 @@ encoded("encode_8_bits_255", 0x0D, (255, 0), b"\xff\x00")
 case(6, "crc32_of_the_digits", " cbf43926", first=b"123456789")
 
 
-def write(path, content):
-    with open(os.path.join(HERE, path), "wb") as file:
-        file.write(content)
-
-
 if __name__ == "__main__":
-    names = [name for name, _, _ in CASES]
-    assert len(set(names)) == len(names)
-    shutil.rmtree(os.path.join(HERE, "data"), ignore_errors=True)
-    os.mkdir(os.path.join(HERE, "data"))
-    for name, content, _ in CASES:
-        write(os.path.join("data", name), content)
-    write("args", "".join(f"{name}\n" for name in names).encode())
-    write("stdout", "".join(f"{name}:{line}\n" for name, _, line in CASES).encode())
-    print(f"{len(CASES)} cases")
+    write_files(os.path.dirname(os.path.abspath(__file__)), CASES)

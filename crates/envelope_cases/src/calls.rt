@@ -1,5 +1,5 @@
 // The calls that a case can ask for, each with the tables or the page that it is lent.
-use crate::show;
+use libc::STDOUT_FILENO;
 
 // The numbers of a case, by their places. What is called, as `call` numbers it.
 const CALLED: usize = 0;
@@ -42,7 +42,7 @@ pub fn call(case: [u64; 10], first: &[u8], second: &[u8]) {
         3 => call_page_list(case, first, second),
         4 => call_decode(case, first),
         5 => call_encode(case, first),
-        6 => show::hex(exports::rnt_crc32(first) as u64, 8),
+        6 => call_crc32(first),
         7 => call_place(case, first, second),
         8 => call_pairing(case, first, second),
         9 => call_file(case, first, second),
@@ -50,40 +50,51 @@ pub fn call(case: [u64; 10], first: &[u8], second: &[u8]) {
     }
 }
 
+fn call_crc32(bytes: &[u8]) {
+    io::write_all(STDOUT_FILENO, b" ");
+    io::print_hex(STDOUT_FILENO, exports::rnt_crc32(bytes) as u64, 8);
+}
+
 // Of a header the counts are shown first, and then the places and lengths of its name and its description.
 fn call_header(case: [u64; 10], envelope: &[u8]) {
     let mut a = [9u64; 64];
     let mut b = [9u64; 64];
     let mut c = [9u64; 64];
-    let fields = lent(&mut a, case[FIRST_TABLE]);
-    let columns = lent(&mut b, case[SECOND_TABLE]);
-    let aliases = lent(&mut c, case[THIRD_TABLE]);
+    let field_words = cases::fit(case[FIRST_TABLE], &a);
+    let fields = &mut a[..field_words];
+    let column_words = cases::fit(case[SECOND_TABLE], &b);
+    let columns = &mut b[..column_words];
+    let alias_words = cases::fit(case[THIRD_TABLE], &c);
+    let aliases = &mut c[..alias_words];
     let mut result = [9u64; 7];
     let code = exports::rnt_read_header(envelope, fields, columns, aliases, &mut result);
-    show::answer(code, &result, 4);
-    show::words(fields);
-    show::words(columns);
-    show::words(aliases);
+    cases::show_answer(code, &result, 4);
+    cases::show_words(fields);
+    cases::show_words(columns);
+    cases::show_words(aliases);
 }
 
 // The words lent are those of the result, the first of which gets the sum of the moves.
 fn call_moves(case: [u64; 10], envelope: &[u8]) {
     let mut a = [9u64; 64];
-    let result = lent(&mut a, case[FIRST_TABLE]);
+    let result_words = cases::fit(case[FIRST_TABLE], &a);
+    let result = &mut a[..result_words];
     let code = exports::rnt_parent_moves(envelope, result);
-    show::answer(code, &[], 0);
-    show::words(result);
+    cases::show_answer(code, &[], 0);
+    cases::show_words(result);
 }
 
 fn call_footer(case: [u64; 10], header: &[u8], footer: &[u8]) {
     let mut a = [9u64; 64];
-    read_clusters(case, header, footer, lent(&mut a, case[FIRST_TABLE]));
+    let words = cases::fit(case[FIRST_TABLE], &a);
+    read_clusters(case, header, footer, &mut a[..words]);
 }
 
 // Answers how many clusters there are.
 fn read_clusters(case: [u64; 10], header: &[u8], footer: &[u8], clusters: &mut [u64]) -> u64 {
     let mut b = [9u64; 64];
-    let metadata = lent(&mut b, case[SECOND_TABLE]);
+    let metadata_words = cases::fit(case[SECOND_TABLE], &b);
+    let metadata = &mut b[..metadata_words];
     let mut result = [9u64; 2];
     let code = exports::rnt_read_footer(
         header,
@@ -93,15 +104,16 @@ fn read_clusters(case: [u64; 10], header: &[u8], footer: &[u8], clusters: &mut [
         metadata,
         &mut result,
     );
-    show::answer(code, &result, 0);
-    show::words(clusters);
-    show::words(metadata);
+    cases::show_answer(code, &result, 0);
+    cases::show_words(clusters);
+    cases::show_words(metadata);
     result[0]
 }
 
 fn call_page_list(case: [u64; 10], header: &[u8], page_list: &[u8]) {
     let mut a = [9u64; 64];
-    let pages = lent(&mut a, case[FIRST_TABLE]);
+    let page_words = cases::fit(case[FIRST_TABLE], &a);
+    let pages = &mut a[..page_words];
     let mut result = [9u64; 1];
     let code = exports::rnt_read_page_list(
         header,
@@ -111,13 +123,14 @@ fn call_page_list(case: [u64; 10], header: &[u8], page_list: &[u8]) {
         pages,
         &mut result,
     );
-    show::answer(code, &result, 0);
-    show::words(pages);
+    cases::show_answer(code, &result, 0);
+    cases::show_words(pages);
 }
 
 fn call_pairing(case: [u64; 10], header: &[u8], page_list: &[u8]) {
     let mut a = [9u64; 64];
-    let pages = lent(&mut a, case[FIRST_TABLE]);
+    let page_words = cases::fit(case[FIRST_TABLE], &a);
+    let pages = &mut a[..page_words];
     pair(
         header,
         page_list,
@@ -132,8 +145,10 @@ fn call_pairing(case: [u64; 10], header: &[u8], page_list: &[u8]) {
 fn call_file(case: [u64; 10], header: &[u8], file: &[u8]) {
     let mut a = [9u64; 64];
     let mut b = [9u64; 64];
-    let clusters = lent(&mut a, case[FIRST_TABLE]);
-    let pages = lent(&mut b, case[THIRD_TABLE]);
+    let cluster_words = cases::fit(case[FIRST_TABLE], &a);
+    let clusters = &mut a[..cluster_words];
+    let page_words = cases::fit(case[THIRD_TABLE], &b);
+    let pages = &mut b[..page_words];
     let at = case[FOOTER_AT] as usize;
     let footer = reader::text_of(file, at, std::num::wrapping_sub_usize(file.len(), at));
     let count = read_clusters(case, header, footer, clusters);
@@ -195,13 +210,14 @@ fn pair(
         pages,
         &mut result,
     );
-    show::answer(code, &result, 0);
-    show::words(pages);
+    cases::show_answer(code, &result, 0);
+    cases::show_words(pages);
 }
 
 fn call_decode(case: [u64; 10], page: &[u8]) {
     let mut a = [0x0909090909090909u64; 64];
-    let words = lent(&mut a, case[FIRST_TABLE]);
+    let lent = cases::fit(case[FIRST_TABLE], &a);
+    let words = &mut a[..lent];
     let code = exports::rnt_decode_page(
         (case[COLUMN_TYPE] % 4294967296) as u32,
         case[ELEMENTS],
@@ -210,16 +226,18 @@ fn call_decode(case: [u64; 10], page: &[u8]) {
         words,
         case[START],
     );
-    show::answer(code, &[], 0);
-    show::words(words);
+    cases::show_answer(code, &[], 0);
+    cases::show_words(words);
 }
 
 fn call_encode(case: [u64; 10], bytes: &[u8]) {
     let mut a = [0u64; 64];
-    take_words(bytes, &mut a);
-    let words = lent(&mut a, case[FIRST_TABLE]);
+    cases::take_words(bytes, &mut a);
+    let lent = cases::fit(case[FIRST_TABLE], &a);
+    let words = &mut a[..lent];
     let mut b = [0xEEu8; 64];
-    let page = lent_bytes(&mut b, case[PAGE_ROOM]);
+    let room = io::count((case[PAGE_ROOM] % 4294967296) as isize, &b);
+    let page = &mut b[..room];
     let mut result = [9u64; 1];
     let code = exports::rnt_encode_page(
         (case[COLUMN_TYPE] % 4294967296) as u32,
@@ -230,42 +248,15 @@ fn call_encode(case: [u64; 10], bytes: &[u8]) {
         page,
         &mut result,
     );
-    show::answer(code, &result, 0);
-    show::bytes(page);
+    cases::show_answer(code, &result, 0);
+    cases::show_bytes(page);
 }
 
 fn call_place(case: [u64; 10], bytes: &[u8], plane: &[u8]) {
     let mut a = [0u64; 64];
-    take_words(bytes, &mut a);
-    let words = lent(&mut a, case[FIRST_TABLE]);
+    cases::take_words(bytes, &mut a);
+    let lent = cases::fit(case[FIRST_TABLE], &a);
+    let words = &mut a[..lent];
     planes::place_plane(case[PLANE] as usize, plane, words);
-    show::words(words);
-}
-
-// Puts the words that some bytes spell into a table, and zeros where there are no more.
-pub fn take_words(bytes: &[u8], table: &mut [u64]) {
-    let mut at: usize = 0;
-    let mut i = 0;
-    while i < table.len() {
-        table[i] = numbers::little_8(bytes, at);
-        at = std::num::wrapping_add_usize(at, 8);
-        i += 1;
-    }
-}
-
-// So many words of a table, all of them where it has fewer; and likewise bytes.
-fn lent(table: &mut [u64], words: u64) -> &mut [u64] {
-    let n = words as usize;
-    if n <= table.len() {
-        return &mut table[..n];
-    }
-    table
-}
-
-fn lent_bytes(page: &mut [u8], bytes: u64) -> &mut [u8] {
-    let n = bytes as usize;
-    if n <= page.len() {
-        return &mut page[..n];
-    }
-    page
+    cases::show_words(words);
 }

@@ -1,6 +1,5 @@
 // Runs the case that each file named by an argument holds: prints its name, the answer, and the lent memory as the call leaves it.
 mod calls;
-mod show;
 
 use libc::STDOUT_FILENO;
 ghost use mathlib.Core.Path.{_≡_};
@@ -22,44 +21,26 @@ fn main() {
     let count = os::arg_count();
     let mut i = 1;
     while i < count {
-        show_argument(i);
+        run(i);
         i += 1;
     }
 }
 
-// The file that argument number `i` names.
-fn show_argument(i: usize) {
-    let mut name = io::buffer();
-    let length = os::arg(i, &mut name);
-    show_file(&name[..length]);
-}
-
-fn show_file(name: &[u8]) {
-    let fd = os::open_read(name);
-    if fd < 0 {
-        os::fail(name);
-        return;
-    }
-    io::write_all(STDOUT_FILENO, name);
-    io::write_all(STDOUT_FILENO, b":");
-    run(fd);
-    io::write_all(STDOUT_FILENO, b"\n");
-}
-
-fn run(fd: i32) {
+// The case of argument number `i`.
+fn run(i: usize) {
     let mut input = io::large_buffer();
-    let count = io::read_full(fd, &mut input);
-    libc::close(fd);
+    let count = cases::read_case(i, &mut input);
     let bytes = &input[..count];
     let all = zeros();
     let mut case = [0u64; 10];
-    calls::take_words(bytes, &mut case);
+    cases::take_words(bytes, &mut case);
     let stop = std::num::wrapping_add_usize(PARTS, case[FIRST_PART] as usize);
     calls::call(
         case,
         part(case, 1, bytes, PARTS, stop, &all),
         part(case, 2, bytes, stop, bytes.len(), &all),
     );
+    io::write_all(STDOUT_FILENO, b"\n");
 }
 
 // The bytes of part number `number`, which stand from `start` to `stop`, or the zeros for it.

@@ -6,7 +6,7 @@ use carried::all_as_carried;
 pub use carried::carries_checksums;
 use items::clusters_number;
 use items::links_number;
-ghost use Prim.Native.Nat.{ℕ, _+_};
+ghost use Prim.Native.Nat.{ℕ};
 ghost use mathlib.Core.Path.{_≡_};
 ghost use Rattle.writing.specs.Rows.{footerRows};
 ghost use Rattle.writing.specs.Footer.{footerPayloadPiece, footerPiece};

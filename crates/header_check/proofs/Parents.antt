@@ -1,7 +1,6 @@
 -- From fields of which nothing is refused to their parents in an array, and the verdict on the chains.
-use Prim.Native.Nat.{ℕ, zero, suc, _+_, _/_, _≤_, _<_, _^_}
+use Prim.Native.Nat.{ℕ, _+_, _/_, _≤_, _<_, _^_}
 use mathlib.Core.List.{List, [], _∷_, _++_}
-use mathlib.Core.Bool.{Bool, true, false}
 use mathlib.Core.Path.{_≡_, refl, sym, ap, subst, _∙_}
 use native.Mathlib.Omega.{arith}
 use native.Mathlib.Numerals.{add-one}
@@ -11,7 +10,7 @@ use lib.ListN.{length, getD, set, take, replicate, length-map, length-replicate}
 use lib.Seq.{take-at}
 use Rattle.numbers.specs.Lists.{Each}
 use Rattle.numbers.specs.Rows.{over}
-use Rattle.wire.specs.Reading.{unless, below, listed}
+use Rattle.wire.specs.Reading.{below, listed}
 use Rattle.frames.specs.Frames.{atMost}
 use Rattle.rows.specs.Words.{fieldWidth, mostFields}
 use Rattle.rows.specs.Tables.{rowWords, fieldRow, firstRows}
@@ -29,7 +28,7 @@ use Rattle.header.proofs.BoundLaws.{map-below}
 use Rattle.header_scan.proofs.RowLaws.{rows-end, rows-endless}
 use Rattle.tree.specs.Shape.{NoVerdict}
 use Rattle.writing.proofs.Sure.{first-none, unless-none}
-use Rattle.writing.specs.Piece.{Piece, first, put, nothing, _&_, inOrder, pieces}
+use Rattle.writing.specs.Piece.{Piece, put, nothing, _&_, inOrder, pieces}
 use Rattle.writing.specs.Rows.{allRows, HeaderRows}
 use Rattle.writing.specs.Header.{repetitionPiece, fieldHeadPiece, fieldTextsPiece, fieldPiece, fieldItem, textsPiece, fieldListPiece, columnListPiece, aliasListPiece, listsPiece, payloadPiece, chains}
 use Rattle.header_check.specs.Parented.{Parented}

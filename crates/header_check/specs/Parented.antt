@@ -1,5 +1,5 @@
 -- Fields whose parent chains can be followed.
-use Prim.Native.Nat.{ℕ, _≤_}
+use Prim.Native.Nat.{_≤_}
 use mathlib.Core.List.{List}
 use lib.ListN.{length}
 use Rattle.rows.specs.Words.{mostFields}

@@ -3,7 +3,7 @@ use parents::Chains;
 use rows::FIELD_WORDS;
 ghost use mathlib.Core.Path.{_≡_};
 ghost use Prim.Native.Nat.{_/_};
-ghost use lib.ListN.{length, take};
+ghost use lib.ListN.{take};
 ghost use Rattle.rows.specs.Words.{fieldWidth};
 ghost use Rattle.rows.specs.Tables.{fieldRow, rowsIn};
 ghost use Rattle.header.specs.Tables.{parentsOf};

@@ -66,12 +66,23 @@ pub fn in_file(file: u64, size: u64, behind: u64, offset: u64) -> u16
     ensures { λ r. ⌜ r ≡ inFile file size behind offset ⌝ }
 {
     if size <= file {
-        let rest = file - size;
-        if behind <= rest {
-            if offset <= rest - behind {
-                return 0;
-            }
-            return 18;
+        if behind <= file - size {
+            return starts_in_file(file, size, behind, offset);
+        }
+        return 18;
+    }
+    18
+}
+
+// The same of a range whose size and what is behind it do not wrap together, as those of a locator that is read: one test less.
+fn starts_in_file(file: u64, size: u64, behind: u64, offset: u64) -> u16
+    requires { ⌜ size + behind < 2 ^ 64 ⌝ }
+    ensures { λ r. ⌜ r ≡ inFile file size behind offset ⌝ }
+{
+    let length = size + behind;
+    if length <= file {
+        if offset <= file - length {
+            return 0;
         }
         return 18;
     }
@@ -88,6 +99,7 @@ fn stored_size_at(s: &[u8], at: usize, size: u64) -> NumberStep
 }
 
 fn offset_at(s: &[u8], at: usize, file: u64, size: u64, behind: u64) -> NumberStep
+    requires { ⌜ size + behind < 2 ^ 64 ⌝ }
     ensures { λ r. ⌜ numberStep r ≡ tested 8 (inFile file size behind) (now (s .entry)) at ⌝ }
 {
     match wire::number_8(s, at) {
@@ -95,7 +107,7 @@ fn offset_at(s: &[u8], at: usize, file: u64, size: u64, behind: u64) -> NumberSt
             offset,
             at,
             next,
-            in_file(file, size, behind, offset),
+            starts_in_file(file, size, behind, offset),
         ),
         NumberStep::Refused(f) => NumberStep::Refused(f),
     }

@@ -1,8 +1,8 @@
 -- What a call that has written leaves: the bytes of its piece, of which nothing was refused.
-use Prim.Native.Nat.{ℕ, _≤_}
-use mathlib.Core.List.{List, _++_}
+use Prim.Native.Nat.{ℕ}
+use mathlib.Core.List.{List}
 use mathlib.Core.Bool.{Bool, true, false}
-use mathlib.Core.Path.{_≡_, refl, sym, ap, _∙_}
+use mathlib.Core.Path.{_≡_, refl, sym, _∙_}
 use native.Mathlib.Omega.{arith}
 use lib.Dec.{leb, eqb}
 use borrow.Author.Tests.{eqb-true}
@@ -12,10 +12,9 @@ use Rattle.numbers.specs.Choice.{pick, both}
 use Rattle.numbers.specs.Rows.{over}
 use Rattle.wire.specs.Reading.{Step, found, refused}
 use Rattle.header.specs.Header.{Header}
-use Rattle.header.specs.Beside.{Beside, read, refusal}
+use Rattle.header.specs.Beside.{read}
 use Rattle.writing.specs.Piece.{Piece}
 use Rattle.writing.specs.Answers.{verdict, answer, left, besideHeader, Answered}
-use Rattle.writing.specs.declared.WriteAnswer.{WriteAnswer}
 use Rattle.writing.specs.declared.WriteAnswer.the-variants.{Written, Refused}
 
 not-written : {B : Type 0} {n k m : ℕ} → Written n ≡ Refused k m → B

@@ -4,7 +4,6 @@ use mathlib.Core.List.{List, [], _∷_}
 use mathlib.Core.Path.{_≡_}
 use lib.ListN.{getD}
 use Rattle.records.specs.declared.HeaderTexts.{HeaderTexts}
-use Rattle.rows.specs.declared.ColumnRow.{ColumnRow}
 use Rattle.header.specs.Header.{Header}
 use Rattle.header.specs.Samples.{smallestHeader, headerWithOneField}
 use Rattle.writing.specs.Piece.{Piece}

@@ -68,7 +68,7 @@ module _ (s : List ℕ) (p stop : ℕ) where
 
 -- a record frame's head
 
-record-head-complete : (s : List ℕ) (end p n : ℕ) → end ≤ length s → little 4 s p ≡ n → n < 2 ^ 31 → 4 ≤ n → p + n ≤ end
+pub record-head-complete : (s : List ℕ) (end p n : ℕ) → end ≤ length s → little 4 s p ≡ n → n < 2 ^ 31 → 4 ≤ n → p + n ≤ end
     → recordHead (take end s) p ≡ found (p + 4) (p + n)
 unfolding recordHead frameSize
 record-head-complete s end p n inside there small big fits =
@@ -287,11 +287,10 @@ module _ {A T C : Type 0} (s : List ℕ) (strict : Bool) (head : ℕ) (r : List 
 
 -- a list frame's head
 
-list-head-complete : (verdict : ℕ → ℕ) (s : List ℕ) (end p n count : ℕ) → end ≤ length s → little 4 s p ≡ 2 ^ 32 - n → little 4 s (p + 4) ≡ count
-    → n < 2 ^ 31 → 8 ≤ n → count < 2 ^ 28 → verdict count ≡ 0 → p + n ≤ end
-    → listHead verdict (take end s) p ≡ found (record { count = count; start = p + 8 }) (p + n)
-unfolding listStop frameSize countJudged
-list-head-complete verdict s end p n count inside there there′ small big few good fits =
+pub list-count-is : (s : List ℕ) (end p n count : ℕ) → end ≤ length s → little 4 s p ≡ 2 ^ 32 - n → little 4 s (p + 4) ≡ count → n < 2 ^ 31 → 8 ≤ n
+    → count < 2 ^ 28 → p + n ≤ end → listCount (take end s) p (listStop (take end s) p) ≡ found (record { count = count; start = p + 8 }) (p + n)
+unfolding listStop frameSize
+list-count-is s end p n count inside there there′ small big few fits =
     let whole = container-long s end inside in
     let w₁ : little 4 (take end s) p ≡ 2 ^ 32 - n = little-container s end inside 4 p (omega arith) ∙ there in
     let w₂ : little 4 (take end s) (p + 4) ≡ count = little-container s end inside 4 (p + 4) (omega arith) ∙ there′ in
@@ -301,8 +300,15 @@ list-head-complete verdict s end p n count inside there there′ small big few g
     let c : leb 8 n ≡ true = le-leb 8 n big in
     let d : leb (p + n) (length (take end s)) ≡ true = le-leb (p + n) (length (take end s)) (omega arith) in
     let e : ltb count (2 ^ 28) ≡ true = lt-ltb count (2 ^ 28) few in
+    rw (w₁, a, b, back, c, d, w₂, e) refl
+
+list-head-complete : (verdict : ℕ → ℕ) (s : List ℕ) (end p n count : ℕ) → end ≤ length s → little 4 s p ≡ 2 ^ 32 - n → little 4 s (p + 4) ≡ count
+    → n < 2 ^ 31 → 8 ≤ n → count < 2 ^ 28 → verdict count ≡ 0 → p + n ≤ end
+    → listHead verdict (take end s) p ≡ found (record { count = count; start = p + 8 }) (p + n)
+unfolding countJudged
+list-head-complete verdict s end p n count inside there there′ small big few good fits =
     let f : eqb (verdict count) 0 ≡ true = eq-eqb (verdict count) 0 good in
-    rw (w₁, a, b, back, c, d, w₂, e, f) refl
+    ap (countJudged verdict p) (list-count-is s end p n count inside there there′ small big few fits) ∙ rw f refl
 
 record ListHead (verdict : ℕ → ℕ) (s : List ℕ) (end p count start stop : ℕ) : Type 0 where
   head : p + 8 ≤ end

@@ -9,7 +9,7 @@ use borrow.Author.Tests.{ltb-true, eq-eqb}
 use lib.ListN.{length, getD}
 use Rattle.numbers.specs.Choice.{pick, both}
 use Rattle.numbers.specs.Numbers.{bytesFor, trailer}
-use Rattle.wire.specs.Reading.{unless, below, listed}
+use Rattle.wire.specs.Reading.{below, listed}
 use Rattle.frames.specs.Frames.{atMost}
 use Rattle.utf8.specs.WellFormed.{wellFormed}
 use Rattle.envelope.specs.Features.{featureBits}

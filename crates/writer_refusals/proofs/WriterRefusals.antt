@@ -1,16 +1,15 @@
 -- What a call of each writer can answer, and that the one number of its outcome tells it.
 use Prim.Native.Nat.{ℕ}
-use mathlib.Core.List.{List, [], _∷_}
+use mathlib.Core.List.{List}
 use mathlib.Core.Bool.{Bool, true, false}
 use mathlib.Core.Path.{_≡_, refl, ap, _∙_}
 use lib.Dec.{eqb, leb}
 use lib.ListN.{length}
-use Rattle.numbers.specs.Choice.{pick, both}
+use Rattle.numbers.specs.Choice.{pick}
 use Rattle.wire.specs.Reading.{Step, found, refused}
 use Rattle.wire.specs.declared.Fault.{Fault}
 use Rattle.envelope.specs.Envelope.{checksumOf}
 use Rattle.header.specs.Header.{Header}
-use Rattle.header.specs.Beside.{Beside, read, refusal}
 use Rattle.header.specs.Tables.{headerOf}
 use Rattle.refusals.specs.Refusals.{among, inHeader, HeaderNumbers, withRoom, ofFirst, ofBeside, possible}
 use Rattle.refusals.proofs.Naming.{among-more}
@@ -24,7 +23,7 @@ use Rattle.writing.specs.Answers.{verdict, answer, besideHeader, outcomeOf}
 use Rattle.writing.specs.declared.WriteAnswer.{WriteAnswer}
 use Rattle.writing.specs.declared.WriteAnswer.the-variants.{Written, Refused}
 use Rattle.writer_refusals.specs.WriterRefusals.{toWriteHeader, toWriteFooter, toWritePageList, HeaderWriterRefusals, FooterWriterRefusals, PageListWriterRefusals}
-use Rattle.writer_refusals.proofs.Giving.{Allowed, Gives}
+use Rattle.writer_refusals.proofs.Giving.{Gives}
 use Rattle.writer_refusals.proofs.Numbers.{header-gives, footer-gives, page-list-gives}
 
 -- a piece as it is answered, where refusals of envelope k with these numbers are possible, and acceptance is

@@ -5,7 +5,7 @@ use mathlib.Core.Bool.{Bool, true, false}
 use mathlib.Core.Path.{_≡_, refl, sym, ap, _∙_}
 use native.Mathlib.Omega.{arith}
 use lib.Dec.{leb, eqb}
-use borrow.Author.Tests.{leb-true, leb-false, le-leb, eq-eqb, lt-leb}
+use borrow.Author.Tests.{leb-true, leb-false, lt-leb}
 use lib.ListN.{length, take, length-append}
 use Rattle.numbers.proofs.Choice.{clash}
 use Rattle.numbers.specs.Numbers.{little}
@@ -17,7 +17,7 @@ use Rattle.wire.specs.declared.Fault.{Fault}
 use Rattle.wire.specs.declared.Kind.the-variants.{Envelope}
 use Rattle.tree.specs.Bytes.{spelled, Stands}
 use Rattle.tree.specs.EnvelopeTree.{sealed}
-use Rattle.tree.proofs.Place.{length-spelled, stands-left, stands-right, little-spelled, container-long}
+use Rattle.tree.proofs.Place.{length-spelled, stands-left, stands-right, little-spelled}
 use Rattle.tree.proofs.Frames.{closed-complete}
 use Rattle.tree.proofs.Envelope.{Opened, opens, sealed-parts}
 use Rattle.writing.specs.Piece.{Piece, first, pieces, enveloped, testedFirst, testedLast}

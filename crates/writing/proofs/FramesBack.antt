@@ -5,38 +5,26 @@ use mathlib.Core.Bool.{Bool, true, false}
 use mathlib.Core.Path.{_≡_, refl, ap, _∙_, subst}
 use native.Mathlib.Omega.{arith}
 use native.Mathlib.Nat.{add-zero}
-use lib.Dec.{ltb, leb, eqb}
-use borrow.Author.Tests.{le-leb, lt-ltb, le-ltb, eq-eqb, ne-eqb}
+use lib.Dec.{eqb}
+use borrow.Author.Tests.{eq-eqb, ne-eqb}
 use lib.ListN.{length, take, length-append}
 use Rattle.numbers.specs.Choice.{pick}
 use Rattle.numbers.specs.Numbers.{little}
 use Rattle.wire.specs.Reading.{Step, found, refused, Rule, fault, after, inItem}
-use Rattle.frames.specs.Frames.{closedBy, closed, frameSize, recordHead, recordBody, recordOf, listStop, listCount, countJudged, listBody, listOf, within, items}
+use Rattle.frames.specs.Frames.{closedBy, closed, recordHead, recordBody, recordOf, listStop, listCount, countJudged, listBody, listOf, within, items}
 use Rattle.wire.specs.declared.Fault.{Fault}
 use Rattle.frames.specs.declared.ListHead.{ListHead}
 use Rattle.wire.specs.declared.Kind.the-variants.{Frame}
 use Rattle.tree.specs.Bytes.{spelled, Stands}
 use Rattle.tree.specs.Shape.{recordBytes, listBytes, Means, none, more}
-use Rattle.tree.proofs.Place.{length-spelled, stands-left, stands-right, little-spelled, container-long, little-container, container-in}
+use Rattle.tree.proofs.Place.{length-spelled, stands-left, stands-right, little-spelled, container-in}
 use Rattle.numbers.proofs.Choice.{both-true}
-use Rattle.tree.proofs.Frames.{closed-complete}
+use Rattle.tree.proofs.Frames.{closed-complete, record-head-complete, list-count-is}
 use Rattle.writing.specs.Piece.{Piece, first, recordPiece, pieces, listPiece}
 use Rattle.writing.proofs.Sure.{first-none, list-bytes-long}
 use Rattle.writing.proofs.ReadBack.{At, Found, RefusedBy, Reads, left-at, right-at}
 
 -- a record frame
-
-record-head-is : (s : List ℕ) (end p n : ℕ) → end ≤ length s → little 4 s p ≡ n → n < 2 ^ 31 → 4 ≤ n → p + n ≤ end
-    → recordHead (take end s) p ≡ found (p + 4) (p + n)
-unfolding recordHead frameSize
-record-head-is s end p n inside there small big fits =
-    let whole = container-long s end inside in
-    let there′ : little 4 (take end s) p ≡ n = little-container s end inside 4 p (omega arith) ∙ there in
-    let a : leb (p + 4) (length (take end s)) ≡ true = le-leb (p + 4) (length (take end s)) (omega arith) in
-    let b : ltb n (2 ^ 31) ≡ true = lt-ltb n (2 ^ 31) small in
-    let c : leb 4 n ≡ true = le-leb 4 n big in
-    let d : leb (p + n) (length (take end s)) ≡ true = le-leb (p + n) (length (take end s)) (omega arith) in
-    rw (there′, a, b, c, d) refl
 
 -- a record frame around bytes: what is in it is read in a container of its own
 record InRecord {A : Type 0} (s : List ℕ) (strict : Bool) (R : Rule A) (end p : ℕ) (bs : List ℕ) : Type 0 where
@@ -54,7 +42,7 @@ in-record s strict R end p bs small at =
     let room = at .room in
     let there : little 4 s p ≡ n = little-spelled 4 n (omega arith) (stands-left (spelled 4 n) bs (at .stands)) in
     let stop : p + n ≡ p + 4 + length bs = omega arith in
-    let head : recordHead (take end s) p ≡ found (p + 4) (p + n) = record-head-is s end p n inside there (omega arith) (omega arith) (omega arith) in
+    let head : recordHead (take end s) p ≡ found (p + 4) (p + n) = record-head-complete s end p n inside there (omega arith) (omega arith) (omega arith) in
     let frame : take (p + 4 + length bs) (take end s) ≡ take (p + 4 + length bs) s = container-in s end inside (p + 4 + length bs) (omega arith) in
     record {
       body = record { inside = omega arith; stands = rw word at (stands-right (spelled 4 n) bs (at .stands)); room = omega arith };
@@ -147,21 +135,6 @@ module _ {A C : Type 0} (s : List ℕ) (head : ℕ) (r : List A → Rule A) (f :
 
 -- a list frame
 
-list-counted-is : (s : List ℕ) (end p n count : ℕ) → end ≤ length s → little 4 s p ≡ 2 ^ 32 - n → little 4 s (p + 4) ≡ count → n < 2 ^ 31 → 8 ≤ n
-    → count < 2 ^ 28 → p + n ≤ end → listCount (take end s) p (listStop (take end s) p) ≡ found (record { count = count; start = p + 8 }) (p + n)
-unfolding listStop frameSize
-list-counted-is s end p n count inside there there′ small big few fits =
-    let whole = container-long s end inside in
-    let w₁ : little 4 (take end s) p ≡ 2 ^ 32 - n = little-container s end inside 4 p (omega arith) ∙ there in
-    let w₂ : little 4 (take end s) (p + 4) ≡ count = little-container s end inside 4 (p + 4) (omega arith) ∙ there′ in
-    let back : 2 ^ 32 - (2 ^ 32 - n) ≡ n = omega arith in
-    let a : leb (p + 4) (length (take end s)) ≡ true = le-leb (p + 4) (length (take end s)) (omega arith) in
-    let b : ltb (2 ^ 32 - n) (2 ^ 31) ≡ false = le-ltb (2 ^ 32 - n) (2 ^ 31) (omega arith) in
-    let c : leb 8 n ≡ true = le-leb 8 n big in
-    let d : leb (p + n) (length (take end s)) ≡ true = le-leb (p + n) (length (take end s)) (omega arith) in
-    let e : ltb count (2 ^ 28) ≡ true = lt-ltb count (2 ^ 28) few in
-    rw (w₁, a, b, back, c, d, w₂, e) refl
-
 -- a list frame around bytes: its head is read, and its items in a container of their own
 record InList {A : Type 0} (s : List ℕ) (strict : Bool) (verdict : ℕ → ℕ) (r : ℕ → List A → Rule A) (end p n : ℕ) (bs : List ℕ) : Type 0 where
   body : At s (p + 8 + length bs) (p + 8) bs
@@ -186,7 +159,7 @@ in-list s strict verdict r end p n bs small few at =
     let there′ : little 4 s (p + 4) ≡ n = little-spelled 4 n (omega arith) (stands-left b₂ bs second) in
     let place : p + 4 + length b₂ ≡ p + 8 = omega arith in
     let stop : p + size ≡ p + 8 + length bs = omega arith in
-    let head : listCount (take end s) p (listStop (take end s) p) ≡ found (record { count = n; start = p + 8 }) (p + 8 + length bs) = rw stop at (list-counted-is s end p size n inside there there′ (omega arith) (omega arith) few (omega arith)) in
+    let head : listCount (take end s) p (listStop (take end s) p) ≡ found (record { count = n; start = p + 8 }) (p + 8 + length bs) = rw stop at (list-count-is s end p size n inside there there′ (omega arith) (omega arith) few (omega arith)) in
     let frame : take (p + 8 + length bs) (take end s) ≡ take (p + 8 + length bs) s = container-in s end inside (p + 8 + length bs) (omega arith) in
     record {
       body = record { inside = omega arith; stands = rw place at (stands-right b₂ bs second); room = omega arith };

@@ -1,14 +1,12 @@
 -- Payloads are refused front to back, so that nothing behind a place that does not fit has a say.
 use Prim.Native.Nat.{ℕ, zero, suc, _+_, _≤_}
 use mathlib.Core.List.{List, [], _∷_, _++_}
-use mathlib.Core.Bool.{Bool, true, false}
-use mathlib.Core.Path.{_≡_, refl, sym, ap, _∙_, subst}
+use mathlib.Core.Bool.{true, false}
+use mathlib.Core.Path.{_≡_, sym, ap, _∙_, subst}
 use lib.ListN.{length}
 use native.Mathlib.Omega.{arith}
-use lib.Dec.{leb}
 use borrow.Author.Tests.{le-leb}
 use Rattle.numbers.specs.Lists.{Each}
-use Rattle.wire.specs.Reading.{unless}
 use Rattle.envelope.specs.Envelope.{ceiling}
 use Rattle.header.specs.Header.{Header}
 use Rattle.footer.specs.Footer.{Footer}

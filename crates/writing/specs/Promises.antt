@@ -1,6 +1,6 @@
 -- What holds of every envelope that is to be written.
-use Prim.Native.Nat.{ℕ, _≤_}
-use mathlib.Core.List.{List, [], _∷_, _++_, flatten}
+use Prim.Native.Nat.{ℕ}
+use mathlib.Core.List.{List, flatten}
 use mathlib.Core.Bool.{true, false}
 use mathlib.Core.Logic.{_↔_}
 use mathlib.Core.Path.{_≡_}
@@ -16,10 +16,10 @@ use Rattle.footer.specs.Footer.{Footer, footerOf}
 use Rattle.page_list.specs.PageList.{pageListOf}
 use Rattle.tree.specs.HeaderTree.{headerContent, renderHeader}
 use Rattle.tree.specs.Spelling.{standard}
-use Rattle.writing.specs.Piece.{Place, Piece}
+use Rattle.writing.specs.Piece.{Piece}
 use Rattle.writing.specs.Rows.{HeaderRows}
-use Rattle.writing.specs.Header.{payloadPiece, headerPiece, headerSays}
-use Rattle.writing.specs.Footer.{carriesFor, allAsCarried, footerPayloadPiece, footerPiece}
+use Rattle.writing.specs.Header.{headerPiece, headerSays}
+use Rattle.writing.specs.Footer.{carriesFor, allAsCarried, footerPiece}
 use Rattle.writing.specs.PageList.{byColumn, inColumnOrder, pagesSay, pageListPiece}
 use Rattle.writing.specs.declared.PageWords.{PageWords}
 

@@ -7,8 +7,6 @@ use Rattle.rows.specs.Tables.{rowsIn, rowWords, fieldRow, columnRow, aliasRow, 
 use Rattle.rows.specs.declared.FieldRow.{FieldRow}
 use Rattle.rows.specs.declared.ColumnRow.{ColumnRow}
 use Rattle.rows.specs.declared.AliasRow.{AliasRow}
-use Rattle.rows.specs.declared.ClusterRow.{ClusterRow}
-use Rattle.rows.specs.declared.Link.{Link}
 use Rattle.footer.specs.Footer.{Footer}
 use Rattle.writing.specs.declared.PageWords.{PageWords}
 

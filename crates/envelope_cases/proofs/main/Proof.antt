@@ -16,8 +16,8 @@ arg-count-requires c κs = tt
 loop-holds : tie.Need-loop-holds Inv-loop μ-loop
 loop-holds c = tt
 
-show-argument-requires : tie.Need-show-argument-requires Inv-loop μ-loop
-show-argument-requires c κs = tt
+run-requires : tie.Need-run-requires Inv-loop μ-loop
+run-requires c κs = tt
 
 add-i : tie.Need-add-i Inv-loop μ-loop
 add-i c = omega arith
@@ -39,7 +39,7 @@ main-spec =
     μ-loop
     arg-count-requires
     loop-holds
-    show-argument-requires
+    run-requires
     add-i
     loop-less
     loop-again

@@ -1,6 +1,9 @@
 use mathlib.Core.Path.{sym, ap, _∙_}
+use native.Mathlib.Omega.{arith}
+use Rattle.numbers.proofs.Numbers.{trailer-most}
 use Rattle.wire.specs.Answers.{numberStep}
 use Rattle.locator.specs.Locator.{locator}
+use Rattle.locator.proofs.Laws.{stored-few}
 use borrow.Author.Needs.{needs}
 use Rattle.locator.proofs.locator_at.Statement.{statement}
 use Rattle.locator.proofs.locator_at.Tie as tie
@@ -15,7 +18,10 @@ trailer-size-requires : tie.Need-trailer-size-requires
 trailer-size-requires c κs = search needs
 
 offset-at-requires : tie.Need-offset-at-requires
-offset-at-requires c κs = search needs
+offset-at-requires c κs =
+    let a = c .before .before .before .before .before .before .args in
+    let few = stored-few (a .size) (a .s .now) (a .at) (sym (c .before .before .before .before .stored-size-at .ensures) ∙ ap numberStep (c .before .before .stored .given .1)) in
+    omega (arith, few, trailer-most (a .checksum), c .trailer-size .ensures)
 
 enum-known-offset : tie.Need-enum-known-offset
 enum-known-offset c = search needs

@@ -1,0 +1,86 @@
+"""The parts of an envelope, and the files of a program that runs cases: for envelope_cases and write_cases."""
+
+import os
+import shutil
+import struct
+import zlib
+
+LONGEST = 1048576
+# In the row of a cluster whose footer carries no checksums of page lists.
+NONE = 1 << 32
+# The code where too few result words are lent.
+TOO_SHORT = 4294967295
+
+
+def u16(n):
+    return struct.pack("<H", n)
+
+
+def u32(n):
+    return struct.pack("<I", n)
+
+
+def u64(n):
+    return struct.pack("<Q", n)
+
+
+def words_of(numbers):
+    return b"".join(u64(n) for n in numbers)
+
+
+def envelope(payload, version=1, minimum=1):
+    content = u16(version) + u16(minimum) + payload
+    return content + u32(zlib.crc32(content))
+
+
+def string(text=b""):
+    return u32(len(text)) + text
+
+
+def record(content):
+    return struct.pack("<i", 4 + len(content)) + content
+
+
+def items(members, more=0, count=None, spare=b""):
+    """A list frame; `more` is how much its size says beside what it has, and `count` is given where it is not the number of members."""
+    content = b"".join(members) + spare
+    return struct.pack("<i", -(8 + len(content) + more)) + u32(len(members) if count is None else count) + content
+
+
+EMPTY = items([])
+
+
+def checksum_of(content):
+    return content[-4:]
+
+
+def flipped(content, place):
+    return content[:place] + bytes([content[place] ^ 0x01]) + content[place + 1 :]
+
+
+# What is printed.
+
+
+def table(words, rows=(), old=9):
+    """How a lent table of so many words is printed, with these words in front."""
+    return " |" + "".join(f" {w}" for w in list(rows) + [old] * (words - len(rows)))
+
+
+def page_bytes(room, content=b""):
+    """How so many lent bytes are printed, with these in front."""
+    return " |" + "".join(f" {b:02x}" for b in content + b"\xee" * (room - len(content)))
+
+
+def write_files(folder, cases):
+    """The cases in data/, the list of them in args, and what is to be printed for them in stdout. A case is its name, its bytes and its line."""
+    names = [name for name, _, _ in cases]
+    assert len(set(names)) == len(names)
+    shutil.rmtree(os.path.join(folder, "data"), ignore_errors=True)
+    os.mkdir(os.path.join(folder, "data"))
+    files = {os.path.join("data", name): content for name, content, _ in cases}
+    files["args"] = "".join(f"{name}\n" for name in names).encode()
+    files["stdout"] = "".join(f"{name}:{line}\n" for name, _, line in cases).encode()
+    for path, content in files.items():
+        with open(os.path.join(folder, path), "wb") as file:
+            file.write(content)
+    print(f"{len(cases)} cases")
