@@ -35,9 +35,9 @@ cut-off (suc k) w q =
     (λ i. low i ∷ spelled k (high i)) ∙ ap (λ (l : List ℕ). w % 256 ∷ l) (cut-off k (w / 256) q)
 
 -- a page's first word, where what does not fit is cut off
-pub word-bytes : (elements bit : ℕ) → spelled 4 (elements % 4294967296 + 1073741824 * (bit % 4)) ≡ spelled 4 (elements + 2 ^ 30 * bit)
+pub word-bytes : (elements bit : ℕ) → spelled 4 (elements % 4294967296 + 4294967297 * (bit % 4) / 4) ≡ spelled 4 (elements + 2 ^ 30 * bit)
 word-bytes elements bit =
-    let w = elements % 4294967296 + 1073741824 * (bit % 4) in
+    let w = elements % 4294967296 + 4294967297 * (bit % 4) / 4 in
     let q = elements / 4294967296 + bit / 4 in
     let same : elements + 2 ^ 30 * bit ≡ w + above 4 q = omega arith in
     sym (ap (spelled 4) same ∙ cut-off 4 w q)

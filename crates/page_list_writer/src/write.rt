@@ -18,11 +18,12 @@ struct RunWritten {
     next: usize,
 }
 
-// A page. What stands in its first word is cut off where it does not fit, so that no sum can wrap.
+// A page. What stands in its first word is cut off where it does not fit, so that no sum can wrap. Bit 30 is brought to its place by a division:
+// where the compiler sees that the lower bytes are those of the element count alone, it makes four stores of the word in place of one.
 fn write_page(page: PageWords, at: usize, out: &mut [u8]) -> usize
     ensures { λ r. ⌜ ((file bits : ℕ) → Stored (now (out .entry)) at (pagePiece file bits page .bytes) (now (out .exit)) r) ⌝ }
 {
-    let word = page.elements % 4294967296 + 1073741824 * (page.bit % 4);
+    let word = page.elements % 4294967296 + 4294967297 * (page.bit % 4) / 4;
     let size_place = stores::store_4(word, at, out);
     let offset_place = stores::store_4(page.size, size_place, out);
     stores::store_8(page.offset, offset_place, out)
