@@ -44,7 +44,7 @@ pub fn in_order(pages: &[u64], n: usize) -> bool
 }
 
 // Where the rows of a column end that stand from row `first` on.
-pub fn run_end(pages: &[u64], column: ColumnNumber, first: usize) -> usize
+fn run_end(pages: &[u64], column: ColumnNumber, first: usize) -> usize
     ensures { λ r. ⌜ r ≡ first + leading (column .0) (drop first (pageRowsIn (now (pages .entry)))) ⌝ }
 {
     let count = pages.len() / rows::PAGE_WORDS;

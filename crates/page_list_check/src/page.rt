@@ -31,7 +31,8 @@ pub fn page_words(pages: &[u64], i: usize) -> PageWords
     }
 }
 
-// A page whose elements have so many bits. Its size is asked for only where its elements fit their place.
+// A page whose elements have so many bits. Its size is asked for only where its elements fit their place; a page of which nothing is refused
+// waits for no number of a refusal.
 fn page_number(page: PageWords, bits: u16, file: u64) -> u16
     ensures { λ r. ⌜ r ≡ pagePiece file bits page .number ⌝ }
 {
@@ -42,8 +43,11 @@ fn page_number(page: PageWords, bits: u16, file: u64) -> u16
             let size = page.size;
             let due = pages::size_of(elements as u32, bits);
             let stored = verdicts::narrow(size, verdicts::BITS_31, locator::stored_as(due, size));
+            if stored != 0 {
+                return stored;
+            }
             let behind = numbers::trailer_size(bit == 1) as u64;
-            return verdicts::first(stored, locator::in_file(file, size, behind, page.offset));
+            return locator::in_file(file, size, behind, page.offset);
         }
         return 25;
     }
