@@ -1,0 +1,4 @@
+pub mod Order
+pub mod Entries
+pub mod Lines
+pub mod Answers
