@@ -1,3 +1,5 @@
 pub mod EntryLaws
 pub mod OrderLaws
 pub mod Front
+pub mod ListedLaws
+pub mod RankLaws

@@ -2,3 +2,4 @@ pub mod Order
 pub mod Entries
 pub mod Lines
 pub mod Answers
+pub mod Listed
