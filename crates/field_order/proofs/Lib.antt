@@ -1,0 +1,5 @@
+pub mod Holding
+pub mod Linking
+pub mod Entering
+pub mod Walking
+pub mod Ordering
