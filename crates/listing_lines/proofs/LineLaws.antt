@@ -9,7 +9,6 @@ use lib.ListN.{length, replicate, length-append, length-map, length-replicate}
 use Rattle.numbers.specs.Rows.{flat}
 use Rattle.decimals.specs.Decimal.{text, decimal}
 use Rattle.rows.specs.Tables.{fieldRow, firstRows}
-use Rattle.listing.specs.Order.{Entry}
 use Rattle.listing.specs.Entries.{entryRow}
 use Rattle.listing.specs.Lines.{shownByte, shown, darkWord, line, characters, entryLine, marked}
 use Rattle.listing_lines.specs.Line.{lineOf, lineBytes}
@@ -27,7 +26,7 @@ shown-spaces (suc k) = ap (λ (r : List ℕ). 32 ∷ r) (shown-spaces k)
 
 -- in the order in which they are stored
 pub line-pieces : (level field : ℕ) (name type : List ℕ) (d : Bool)
-    → ((((((replicate (2 * level) 32 ++ shown (decimal field)) ++ shown (text " ")) ++ shown name) ++ shown (text " ")) ++ shown type) ++ (shown (darkWord d) ++ text "\n"))
+    → replicate (2 * level) 32 ++ shown (decimal field) ++ shown (text " ") ++ shown name ++ shown (text " ") ++ shown type ++ (shown (darkWord d) ++ text "\n")
     ≡ line level field name type d
 unfolding line
 line-pieces level field name type d =

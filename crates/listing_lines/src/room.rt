@@ -28,8 +28,8 @@ fn take_room(room: Room, len: usize) -> Room
     }
 }
 
-// The room that is left after a line: two spaces per level, the number, the name, the type name, and two spaces between them; then the
-// line's end, with the dark word before it where it applies.
+// The room that is left after a line: two spaces per level, the number, the name, the type name; last the two spaces between these and the
+// line's end, with the five bytes of the dark word where it applies.
 fn line_room(envelope: &[u8], line: Line, room: Room) -> Room
     ensures { λ r. ⌜ Taken room (length (lineBytes (now (envelope .entry)) line)) r ⌝ }
 {

@@ -4,6 +4,7 @@ use mathlib.Core.Path.{_≡_, sym, ap, _∙_}
 use native.Mathlib.Omega.{arith}
 use borrow.Author.Needs.{needs}
 use lib.ListN.{length, length-append}
+use Rattle.listing_lines.specs.Line.{lineBytes}
 use Rattle.listing_lines.specs.Room.{Taken}
 use Rattle.listing_lines.specs.declared.room.Room.the-variants.{Left}
 use Rattle.listing_lines.proofs.LineLaws.{firstLines, no-lines, lines-next}
@@ -18,7 +19,9 @@ abbrev μ-loop : tie.MeasureT-loop
 μ-loop envelope fields marks entries len n room₀ i₀ room i = length entries / 2 - i
 
 loop-holds : tie.Need-loop-holds Inv-loop μ-loop
-loop-holds c = (zero-le, taken-as (sym (ap length (no-lines (c .before .before .before .before .args .envelope .now) (c .before .before .before .before .args .fields .now) (c .before .before .before .before .args .marks .now) (c .before .before .before .before .args .entries .now)))) (taken-none (c .before .before .before .before .args .len)))
+loop-holds c =
+    let a = c .before .before .before .before .args in
+    (zero-le, taken-as (sym (ap length (no-lines (a .envelope .now) (a .fields .now) (a .marks .now) (a .entries .now)))) (taken-none (a .len)))
 
 line-of-requires : tie.Need-line-of-requires Inv-loop μ-loop
 line-of-requires c κs = search needs
@@ -33,13 +36,18 @@ loop-less : tie.Need-loop-less Inv-loop μ-loop
 loop-less c = omega arith
 
 loop-again : tie.Need-loop-again Inv-loop μ-loop
-loop-again c = let lines = firstLines (c .before .before .before .before .before .before .before .before .args .envelope .now) (c .before .before .before .before .before .before .before .before .args .fields .now) (c .before .before .before .before .before .before .before .before .args .marks .now) (c .before .before .before .before .before .before .before .before .args .entries .now) in
-    let next = ap length (lines-next (c .before .before .before .before .before .before .before .before .args .envelope .now) (c .before .before .before .before .before .before .before .before .args .fields .now) (c .before .before .before .before .before .before .before .before .args .marks .now) (c .before .before .before .before .before .before .before .before .args .entries .now) (c .before .before .before .loop .i) (c .before .line-of .ensures)) in
-    (omega arith, taken-as (sym (next ∙ length-append (lines (c .before .before .before .loop .i)) _)) (taken-then (c .before .before .before .loop .inv .1) (c .line-room .ensures)))
+loop-again c =
+    let a = c .before .before .before .before .before .before .before .before .args in
+    let l = c .before .before .before .loop in
+    let next = ap length (lines-next (a .envelope .now) (a .fields .now) (a .marks .now) (a .entries .now) (l .i) (c .before .line-of .ensures)) in
+    let both = length-append (firstLines (a .envelope .now) (a .fields .now) (a .marks .now) (a .entries .now) (l .i)) (lineBytes (a .envelope .now) (c .before .line-of .result)) in
+    (omega arith, taken-as (sym (next ∙ both)) (taken-then (l .inv .1) (c .line-room .ensures)))
 
 returns : tie.Need-returns Inv-loop μ-loop
-returns c = let all : c .before .loop .i ≡ length (c .before .before .before .before .before .before .args .entries .now) / 2 = omega arith in
-    taken-as (ap (λ (i : ℕ). length (firstLines (c .before .before .before .before .before .before .args .envelope .now) (c .before .before .before .before .before .before .args .fields .now) (c .before .before .before .before .before .before .args .marks .now) (c .before .before .before .before .before .before .args .entries .now) i)) all) (c .before .loop .inv .1)
+returns c =
+    let a = c .before .before .before .before .before .before .args in
+    let all : c .before .loop .i ≡ length (a .entries .now) / 2 = omega arith in
+    taken-as (ap (λ (i : ℕ). length (firstLines (a .envelope .now) (a .fields .now) (a .marks .now) (a .entries .now) i)) all) (c .before .loop .inv .1)
 
 pub lines-room-spec : {M : Type 1} → statement M
 lines-room-spec =

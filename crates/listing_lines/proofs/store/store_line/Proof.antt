@@ -54,8 +54,7 @@ same-length c = omega (arith, c .before .before .before .before .before .before 
 
 returns : tie.Need-returns
 unfolding lineBytes
-returns c = let line = c .before .before .before .before .before .before .before .before .before .before .before .before .before .before .before .before .before .before .before .before .before .before .before .before .before .before .before .before .before .before .before .before .before .before .before .before .before .before .before .args .line in
-    let e = c .before .before .before .before .before .before .before .before .before .before .before .before .before .before .before .before .before .before .before .before .before .before .before .before .before .before .before .before .before .before .before .before .before .before .before .before .before .before .before .args .envelope .now in
+returns c =
     stored-as (line-pieces _ _ _ _ _) (stored-then (stored-then (stored-then (stored-then (stored-then (stored-then (c .before .before .before .before .before .before .before .before .before .before .before .before .before .before .before .before .before .before .before .before .before .before .before .before .before .before .before .before .before .before .before .store-indent .ensures) (rw (c .before .before .before .before .before .before .before .before .before .before .before .before .before .before .before .before .before .before .before .before .before .before .before .before .before .before .before .before .before .before .before .before .before .before .digits-of .ensures .0) at (c .before .before .before .before .before .before .before .before .before .before .before .before .before .before .before .before .before .before .before .before .before .before .before .before .before .before .store-shown .ensures))) (c .before .before .before .before .before .before .before .before .before .before .before .before .before .before .before .before .before .before .before .before .before .store-shown2 .ensures)) (rw (c .before .before .before .before .before .before .before .before .before .before .before .before .before .before .before .before .before .before .text-of .ensures) at (c .before .before .before .before .before .before .before .before .before .before .before .before .before .before .before .before .store-shown3 .ensures))) (c .before .before .before .before .before .before .before .before .before .before .before .store-shown4 .ensures)) (rw (c .before .before .before .before .before .before .before .before .text-of2 .ensures) at (c .before .before .before .before .before .before .store-shown5 .ensures))) (c .before .before .store-end .ensures))
 
 pub store-line-spec : {M : Type 1} → statement M

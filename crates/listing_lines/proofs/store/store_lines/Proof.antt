@@ -17,7 +17,9 @@ abbrev μ-loop : tie.MeasureT-loop
 μ-loop envelope fields marks entries out₀ n at₀ i₀ out at i = length entries / 2 - i
 
 loop-holds : tie.Need-loop-holds Inv-loop μ-loop
-loop-holds c = (zero-le, refl, stored-as (sym (no-lines (c .before .before .before .before .before .args .envelope .now) (c .before .before .before .before .before .args .fields .now) (c .before .before .before .before .before .args .marks .now) (c .before .before .before .before .before .args .entries .now))) (stored-none _ _))
+loop-holds c =
+    let a = c .before .before .before .before .before .args in
+    (zero-le, refl, stored-as (sym (no-lines (a .envelope .now) (a .fields .now) (a .marks .now) (a .entries .now))) (stored-none _ _))
 
 line-of-requires : tie.Need-line-of-requires Inv-loop μ-loop
 line-of-requires c κs = search needs
@@ -32,14 +34,20 @@ loop-less : tie.Need-loop-less Inv-loop μ-loop
 loop-less c = omega arith
 
 loop-again : tie.Need-loop-again Inv-loop μ-loop
-loop-again c = (omega arith, omega (arith, c .before .before .store-line .kept, c .before .before .before .before .before .before .loop .inv .1), stored-as (sym (lines-next (c .before .before .before .before .before .before .before .before .before .before .before .before .args .envelope .now) (c .before .before .before .before .before .before .before .before .before .before .before .before .args .fields .now) (c .before .before .before .before .before .before .before .before .before .before .before .before .args .marks .now) (c .before .before .before .before .before .before .before .before .before .before .before .before .args .entries .now) (c .before .before .before .before .before .before .loop .i) (c .before .before .before .before .line-of .ensures))) (stored-then (c .before .before .before .before .before .before .loop .inv .2) (c .before .before .store-line .ensures)))
+loop-again c =
+    let a = c .before .before .before .before .before .before .before .before .before .before .before .before .args in
+    let l = c .before .before .before .before .before .before .loop in
+    let next = lines-next (a .envelope .now) (a .fields .now) (a .marks .now) (a .entries .now) (l .i) (c .before .before .before .before .line-of .ensures) in
+    (omega arith, omega (arith, c .before .before .store-line .kept, l .inv .1), stored-as (sym next) (stored-then (l .inv .2) (c .before .before .store-line .ensures)))
 
 same-length : tie.Need-same-length Inv-loop μ-loop
 same-length c = c .before .loop .inv .1
 
 returns : tie.Need-returns Inv-loop μ-loop
-returns c = let all : c .before .loop .i ≡ length (c .before .before .before .before .before .before .before .args .entries .now) / 2 = omega arith in
-    stored-as (ap (firstLines (c .before .before .before .before .before .before .before .args .envelope .now) (c .before .before .before .before .before .before .before .args .fields .now) (c .before .before .before .before .before .before .before .args .marks .now) (c .before .before .before .before .before .before .before .args .entries .now)) all) (c .before .loop .inv .2)
+returns c =
+    let a = c .before .before .before .before .before .before .before .args in
+    let all : c .before .loop .i ≡ length (a .entries .now) / 2 = omega arith in
+    stored-as (ap (firstLines (a .envelope .now) (a .fields .now) (a .marks .now) (a .entries .now)) all) (c .before .loop .inv .2)
 
 pub store-lines-spec : {M : Type 1} → statement M
 store-lines-spec =
