@@ -3,6 +3,7 @@ use mathlib.Core.Path.{refl}
 use borrow.Author.Tests.{lt-leb}
 use lib.ListN.{length}
 use Rattle.numbers.specs.Numbers.{little}
+use Rattle.decimals.specs.Decimal.{decimalBy}
 use Rattle.checksum.specs.Crc.{shifted, bits, byte, fold, crc32}
 use Rattle.wire.specs.Reading.{number, judged, inItem}
 use Rattle.text.specs.Strings.{stringOf}
@@ -14,7 +15,7 @@ use Rattle.header.specs.Header.{columnsAfter, aliasesAfter, lists, payload}
 use Rattle.records.specs.Records.{texts}
 use Rattle.parents.specs.Parents.{allReach}
 use Rattle.header.specs.Tables.{headerOf, chained}
-use Rattle.report.specs.Line.{decimalBy, acceptedLine, refusedLine, longerLine}
+use Rattle.report.specs.Line.{acceptedLine, refusedLine, longerLine}
 use Rattle.report.specs.Program.{verdict, printed}
 use Rattle.report.specs.Printed.{SmallestHeader, EmptyInput, LongerInput}
 

@@ -1,4 +1,3 @@
 pub mod LineLaws
-pub mod DecimalLaws
 pub mod RoomLaws
 pub mod Examples

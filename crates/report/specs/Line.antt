@@ -1,29 +1,14 @@
 -- The line that is printed for a header.
-use Prim.Native.Nat.{ℕ, zero, suc, _+_, _/_, _%_}
-use Prim.Native.Char.{code}
-use Prim.Native.String.{String, [] as nothing, _∷_ as _followed-by_}
-use mathlib.Core.List.{List, [], _∷_, _++_}
+use Prim.Native.Nat.{ℕ, _+_}
+use mathlib.Core.List.{List, _++_}
 use lib.ListN.{length, take, drop, replicate}
-use lib.Dec.{ltb, leb}
+use lib.Dec.{leb}
 use Rattle.numbers.specs.Choice.{pick}
 use Rattle.numbers.specs.Rows.{over}
+use Rattle.decimals.specs.Decimal.{text, decimal}
 use Rattle.header.specs.declared.HeaderAnswer.{HeaderAnswer}
 use Rattle.header.specs.declared.HeaderAnswer.the-variants.{Accepted, Refused}
 use Rattle.report.specs.declared.Line.{Line}
-
--- the bytes of a text in ASCII
-abbrev pub text : String → List ℕ
-text nothing = []
-text (c followed-by s) = code c ∷ text s
-
--- a number in decimal digits, none of them a leading zero; `steps` bounds how often it is divided
-unfoldable pub decimalBy : ℕ → ℕ → List ℕ
-decimalBy zero n = (48 + n) ∷ []
-decimalBy (suc steps) n = pick (ltb n 10) ((48 + n) ∷ []) (decimalBy steps (n / 10) ++ ((48 + n % 10) ∷ []))
-
--- a number is divided by ten less often than it counts
-abbrev pub decimal : ℕ → List ℕ
-decimal n = decimalBy n n
 
 unfoldable pub acceptedLine : ℕ → ℕ → ℕ → List ℕ
 acceptedLine fields columns aliases =

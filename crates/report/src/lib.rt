@@ -5,7 +5,8 @@ ghost use mathlib.Core.List.{[]};
 ghost use Prim.Native.Nat.{_≤_};
 ghost use lib.ListN.{length};
 ghost use Rattle.io.specs.Counts.{Counts};
-ghost use Rattle.report.specs.Line.{decimal, acceptedLine, refusedLine, longerLine, headerLine, lineOf, added};
+ghost use Rattle.decimals.specs.Decimal.{decimal};
+ghost use Rattle.report.specs.Line.{acceptedLine, refusedLine, longerLine, headerLine, lineOf, added};
 ghost use Rattle.report.specs.Program.{printed};
 
 // The first `len` bytes are the line, its end included.
@@ -80,9 +81,10 @@ fn with_number(line: Line, n: u64) -> Line
     ensures { λ r. ⌜ r ≡ added line (decimal n) ⌝ }
     ensures { λ r. ⌜ length (decimal n) ≤ 20 ⌝ }
 {
-    let mut digits = [0u8; 20];
-    let count = io::decimal(n, &mut digits);
-    with_text(line, &digits[..count])
+    let digits = decimals::digits_of(n);
+    let bytes = digits.bytes;
+    let len = digits.len;
+    with_text(line, &bytes[..len])
 }
 
 // The line with a text after it, where there is room for it.

@@ -1,5 +1,6 @@
 use native.Mathlib.Omega.{arith}
-use Rattle.report.specs.Line.{text, decimal, acceptedLine}
+use Rattle.decimals.specs.Decimal.{text, decimal}
+use Rattle.report.specs.Line.{acceptedLine}
 use Rattle.report.proofs.LineLaws.{says-nothing, says-more}
 use borrow.Author.Needs.{needs}
 use Rattle.report.proofs.accepted_line.Statement.{statement}

@@ -1,5 +1,6 @@
 use native.Mathlib.Omega.{arith}
-use Rattle.report.specs.Line.{text, longerLine}
+use Rattle.decimals.specs.Decimal.{text}
+use Rattle.report.specs.Line.{longerLine}
 use Rattle.report.proofs.LineLaws.{says-nothing, says-more}
 use borrow.Author.Needs.{needs}
 use Rattle.report.proofs.longer_line.Statement.{statement}

@@ -1,0 +1,60 @@
+# For the commands that run a proved program on a header: their arguments, and the program, built where it is missing or older than its sources.
+# A command sets `root`, the repository, and `name`, its own name and the program's, defines `usage`, and then sources this file.
+
+program=$root/target/bin/$name
+
+fail() {
+    echo "$name: $*" >&2
+    exit 2
+}
+
+is_built() {
+    [ -x "$program" ] || return 1
+    local newer
+    newer=$(find "$root/crates.txt" "$root"/crates/*/{src,specs,proofs} -newer "$program" -print -quit 2>/dev/null)
+    [ -z "$newer" ]
+}
+
+# Only a proved program is built.
+build() {
+    command -v rt >/dev/null || fail "the program is missing or older than its sources, and rt, which proves and builds it, is not in PATH"
+    echo "$name: proving and building the program; from nothing this takes some minutes" >&2
+    local said
+    if ! said=$(cd "$root" && rt check "$name" 2>&1); then
+        printf '%s\n' "$said" | tail -n 20 >&2
+        fail "the program could not be built"
+    fi
+    # rt leaves a program as it is where none of its own sources changed
+    touch "$program" || fail "$program is missing"
+}
+
+# Makes the FILE that the command's arguments name its standard input, where they name one.
+take_input() {
+    case ${1-} in
+    -h | --help)
+        usage
+        exit 0
+        ;;
+    --) shift ;;
+    -?*)
+        usage >&2
+        fail "no such option: $1"
+        ;;
+    esac
+    if [ $# -gt 1 ]; then
+        usage >&2
+        fail "one FILE at a time"
+    fi
+    if [ $# -eq 1 ]; then
+        [ -e "$1" ] || fail "$1: no such file"
+        [ ! -d "$1" ] || fail "$1: a directory"
+        [ -r "$1" ] || fail "$1: not readable"
+        exec <"$1" || fail "$1: not readable"
+    fi
+}
+
+# Puts what the program prints into `printed`, without the line end behind it.
+run_program() {
+    is_built || build </dev/null
+    printed=$("$program") || fail "the program could not be run"
+}
