@@ -118,6 +118,34 @@ def alphabets_header(name):
     return envelope(payload + items(fields) + items(columns) + items([]))
 
 
+def tree_header():
+    """Top-level fields first, then those below them, as writers number them:
+    the tracks of an event, each a record, and a reading that is one of two
+    types. The second of these has a column of a type that is not listed."""
+    fields = [
+        field(0, 0, "run", "std::uint32_t"),
+        field(1, 1, "tracks", "std::vector<Track>"),
+        field(2, 3, "adc", "std::variant<std::int32_t,std::bfloat16_t>"),
+        field(3, 0, "run_number", "std::uint32_t", flags=0x02),
+        field(1, 2, "_0", "Track"),
+        field(2, 0, "_0", "std::int32_t"),
+        field(2, 0, "_1", "std::bfloat16_t"),
+        field(4, 0, "pt", "float"),
+        field(4, 0, "φ", "double"),
+    ]
+    columns = [
+        column(0x14, 32, 0),
+        column(0x0F, 32, 1),
+        column(0x03, 96, 2),
+        column(0x1B, 32, 5),
+        column(0x1D, 16, 6),
+        column(0x11, 32, 7),
+        column(0x10, 64, 8),
+    ]
+    payload = FEATURES + string("muons") + string("a tree of fields")
+    return envelope(payload + items(fields) + items(columns) + items([alias(0, 3)]))
+
+
 EXAMPLES = {
     "smallest.header": SMALLEST_HEADER,
     "smallest.footer": SMALLEST_FOOTER,
@@ -131,6 +159,7 @@ EXAMPLES = {
     "damaged.header": flipped(FIELDS_HEADER, 16),
     "alphabets.header": alphabets_header("энергия"),
     "surrogate.header": alphabets_header(b"\xed\xa0\x80"),
+    "tree.header": tree_header(),
 }
 
 if __name__ == "__main__":

@@ -127,6 +127,33 @@ uint32_t rnt_parent_moves(const uint8_t *header, size_t header_length,
                           uint64_t *result, size_t result_words);
 
 /*
+ * Lists the fields of a header as a tree, in lines that people can read. A
+ * field's line comes first, then the listings of its children, the other
+ * fields that name it as parent, smaller numbers first; the fields that are
+ * their own parents stand in the order of their numbers. So every field has
+ * one line: two spaces for each move to its top, its number in decimal, a
+ * space, its name, a space, its type name, then " dark" where it is dark, and
+ * a line end (byte 10). Bytes below 32 and byte 127 of the two names are
+ * written as '?', all others as they are, so that the listing is well-formed
+ * UTF-8.
+ *
+ * No table is lent. The call takes up to about 300 KiB of stack.
+ *
+ * Refusals have envelope 1: those of rnt_read_header with room enough for its
+ * rows; last 20, where the listing is longer than the lent bytes. There is no
+ * other limit to its length, which is at most header_length plus two bytes
+ * for each move that rnt_parent_moves counts.
+ *
+ * The listing is written to the first bytes of out; the bytes after it are
+ * left alone, and no byte 0 ends it. A refusal changes no byte of out.
+ *
+ * Result, 1 word: bytes written. A header without fields has none.
+ */
+uint32_t rnt_list_fields(const uint8_t *header, size_t header_length,
+                         uint8_t *out, size_t out_length,
+                         uint64_t *result, size_t result_words);
+
+/*
  * Reads a footer under its header, for a file of the given length. Refusals
  * have envelope 1 where the header is refused, else 2.
  *

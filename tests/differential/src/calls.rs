@@ -23,6 +23,14 @@ mod exported {
             result_words: usize,
         ) -> u32;
         pub fn rnt_parent_moves(header: *const u8, header_length: usize, result: *mut u64, result_words: usize) -> u32;
+        pub fn rnt_list_fields(
+            header: *const u8,
+            header_length: usize,
+            out: *mut u8,
+            out_length: usize,
+            result: *mut u64,
+            result_words: usize,
+        ) -> u32;
         pub fn rnt_read_footer(
             header: *const u8,
             header_length: usize,
@@ -178,6 +186,22 @@ mod exported {
     ) -> u32 {
         answer(from_raw_parts_mut(result, result_words), || {
             reference::parent_moves(from_raw_parts(header, header_length))
+        })
+    }
+
+    pub unsafe fn rnt_list_fields(
+        header: *const u8,
+        header_length: usize,
+        out: *mut u8,
+        out_length: usize,
+        result: *mut u64,
+        result_words: usize,
+    ) -> u32 {
+        answer(from_raw_parts_mut(result, result_words), || {
+            reference::list_fields(
+                from_raw_parts(header, header_length),
+                from_raw_parts_mut(out, out_length),
+            )
         })
     }
 
@@ -414,6 +438,20 @@ pub fn read_header(
 pub fn parent_moves(header: &[u8], result: &mut [u64]) -> u32 {
     // SAFETY: as above.
     unsafe { exported::rnt_parent_moves(header.as_ptr(), header.len(), result.as_mut_ptr(), result.len()) }
+}
+
+pub fn list_fields(header: &[u8], out: &mut [u8], result: &mut [u64]) -> u32 {
+    // SAFETY: as above.
+    unsafe {
+        exported::rnt_list_fields(
+            header.as_ptr(),
+            header.len(),
+            out.as_mut_ptr(),
+            out.len(),
+            result.as_mut_ptr(),
+            result.len(),
+        )
+    }
 }
 
 pub fn read_footer(

@@ -1,6 +1,7 @@
 //! Runs cases on the library and on the reference and compares everything that
 //! either of them may write.
 
+pub mod listing;
 mod writing;
 
 use crate::calls::{self, FooterTables, HeaderTables, PageListTable};
@@ -137,11 +138,13 @@ enum Note {
     MostMoves,
     ReadBack,
     ReadersNumber,
+    LinesBack,
+    Dark,
     Short,
 }
 
 /// The notes as a report has them.
-pub const NOTES: [&str; 10] = [
+pub const NOTES: [&str; 12] = [
     "of them also from a newer writer",
     "of them with checksums of page lists",
     "of them with the row's checksum",
@@ -151,6 +154,8 @@ pub const NOTES: [&str; 10] = [
     "of them with as many moves as there can be",
     "of them read back as the same tables",
     "refused by the reader's number for the same bytes",
+    "of them with the fields told back by their lines",
+    "of them with a dark field",
     "with too short a result",
 ];
 
@@ -217,6 +222,9 @@ fn exported<const N: usize>(result: &mut [u64], call: impl FnOnce() -> (u32, [u6
 /// A call that counts moves: a header and the lent result.
 pub type MovesCall = fn(&[u8], &mut [u64]) -> u32;
 
+/// A call that lists fields: a header, the lent bytes and the lent result.
+pub type ListCall = fn(&[u8], &mut [u8], &mut [u64]) -> u32;
+
 /// Calls that write: what they are lent, the bytes and the result.
 pub type WriteHeaderCall = Box<dyn Fn(HeaderTables, &mut [u8], &mut [u64]) -> u32>;
 pub type WriteFooterCall = Box<dyn Fn(FooterTables, &mut [u8], &mut [u64]) -> u32>;
@@ -227,13 +235,14 @@ pub struct Comparer {
     pub tally: Tally,
     /// The library's, or one that is wrong, to see that it is found.
     pub parent_moves: MovesCall,
+    pub list_fields: ListCall,
     pub write_header: WriteHeaderCall,
     pub write_footer: WriteFooterCall,
     pub write_page_list: WritePageListCall,
     /// Fields, clusters or pages, columns or metadata, and aliases.
     tables: [Lent<u64>; 3],
     result: Lent<u64>,
-    /// The bytes of a page or of an envelope that are written.
+    /// The bytes of a page, of an envelope or of a listing that are written.
     bytes: Lent<u8>,
     shelves: [Shelf; 2],
 }
@@ -244,6 +253,7 @@ impl Comparer {
             generator: Generator::new(),
             tally: Tally::new(),
             parent_moves: calls::parent_moves,
+            list_fields: calls::list_fields,
             write_header: Box::new(calls::write_header),
             write_footer: Box::new(calls::write_footer),
             write_page_list: Box::new(calls::write_page_list),
@@ -292,6 +302,13 @@ impl Comparer {
                 let case = self.generator.moves_case();
                 self.moves(&case)
                     .map_err(|error| error + &dump("header", &case.envelope))
+            }
+            Kind::List => {
+                let case = self.generator.list_case();
+                self.list(&case).map_err(|error| {
+                    let numbers = format!("lent bytes {} result words {}\n", case.out, case.result);
+                    error + &numbers + &dump("header", &case.envelope)
+                })
             }
             Kind::WriteHeader => {
                 let case = self.generator.write_header_case();

@@ -4,6 +4,7 @@
 pub mod damage;
 pub mod edges;
 pub mod envelopes;
+pub mod listing;
 pub mod models;
 pub mod moves;
 pub mod pages;
@@ -15,7 +16,7 @@ pub mod writing;
 use crate::writer::Writer;
 use random::Random;
 
-/// The twelve kinds of cases.
+/// The thirteen kinds of cases.
 #[derive(Clone, Copy, Debug, PartialEq, Eq)]
 pub enum Kind {
     Header,
@@ -30,9 +31,10 @@ pub enum Kind {
     WriteHeader,
     WriteFooter,
     WritePageList,
+    List,
 }
 
-pub const KINDS: [Kind; 12] = [
+pub const KINDS: [Kind; 13] = [
     Kind::Header,
     Kind::Footer,
     Kind::PageList,
@@ -45,6 +47,7 @@ pub const KINDS: [Kind; 12] = [
     Kind::WriteHeader,
     Kind::WriteFooter,
     Kind::WritePageList,
+    Kind::List,
 ];
 
 impl Kind {
@@ -62,6 +65,7 @@ impl Kind {
             Kind::WriteHeader => "write-header",
             Kind::WriteFooter => "write-footer",
             Kind::WritePageList => "write-page-list",
+            Kind::List => "list",
         }
     }
 }

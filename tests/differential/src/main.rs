@@ -11,9 +11,9 @@ const HELP: &str = "\
 usage: differential N [SEED] [--threads T] [--only KIND] [--case NUMBER]
 
 Runs N cases of each kind (header, footer, page-list, decode, encode, crc,
-string, pairing, moves, write-header, write-footer, write-page-list) on the
-library and on the independent reference, and compares answers, result words and
-every word and byte of every lent room. SEED is 1 unless given.
+string, pairing, moves, write-header, write-footer, write-page-list, list) on
+the library and on the independent reference, and compares answers, result words
+and every word and byte of every lent room. SEED is 1 unless given.
 --threads T      at most 2 threads, 1 unless given
 --only KIND      that kind alone
 --case NUMBER    that case alone, of each kind or of the one named
@@ -136,7 +136,7 @@ fn reachable(kind: Kind) -> Vec<(usize, usize)> {
     let own = |envelope: usize, numbers: &[usize]| numbers.iter().map(|&number| (envelope, number)).collect::<Vec<_>>();
     let page_list = [1, 2, 3, 4, 5, 7, 8, 10, 11, 12, 17, 18, 19, 20];
     match kind {
-        Kind::Header => header.chain([(1, 20)]).collect(),
+        Kind::Header | Kind::List => header.chain([(1, 20)]).collect(),
         Kind::Moves => header.collect(),
         Kind::Footer => header
             .chain(own(2, &[1, 2, 3, 4, 5, 6, 7, 8, 10, 11, 12, 16, 17, 18, 19, 20]))

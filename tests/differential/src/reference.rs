@@ -5,6 +5,7 @@ pub mod crc;
 pub mod envelope;
 pub mod footer;
 pub mod header;
+pub mod listing;
 pub mod page_list;
 pub mod pages;
 pub mod writing;
@@ -57,6 +58,12 @@ pub fn parent_moves(header: &[u8]) -> (u32, [u64; 1]) {
         Err(number) => (refusal(HEADER, number), [0]),
         Ok(header) => (ACCEPTED, [header.moves()]),
     }
+}
+
+/// Lists the fields of a header into lent bytes; gives the bytes written.
+pub fn list_fields(envelope: &[u8], out: &mut [u8]) -> (u32, [u64; 1]) {
+    let header = header::read(envelope);
+    written(HEADER, header.and_then(|header| listing::write(&header, envelope, out)))
 }
 
 /// Reads a footer into flat tables, after its header.

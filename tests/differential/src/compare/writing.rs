@@ -173,8 +173,8 @@ impl Comparer {
         Ok(())
     }
 
-    /// The envelope that the library has written.
-    fn written(&mut self) -> Vec<u8> {
+    /// The envelope or the listing that the library has written.
+    pub(super) fn written(&mut self) -> Vec<u8> {
         let length = self.result.ours()[0] as usize;
         self.bytes.ours()[..length].to_vec()
     }

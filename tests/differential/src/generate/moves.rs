@@ -23,7 +23,7 @@ pub struct MovesCase {
 }
 
 /// The parents of all fields, and their moves where the shape tells them.
-type Shape = (Vec<u32>, Option<u64>);
+pub(super) type Shape = (Vec<u32>, Option<u64>);
 
 /// The moves of so many fields in one chain.
 const fn chain_moves(count: usize) -> u64 {
@@ -32,14 +32,14 @@ const fn chain_moves(count: usize) -> u64 {
 
 /// Each field's parent is the one before it, but that a new chain starts after
 /// so many fields.
-fn chains(count: usize, length: usize) -> Shape {
+pub(super) fn chains(count: usize, length: usize) -> Shape {
     let parents = (0..count).map(|i| if i % length == 0 { i } else { i - 1 } as u32);
     let whole = (count / length) as u64 * chain_moves(length);
     (parents.collect(), Some(whole + chain_moves(count % length)))
 }
 
 /// All fields hang on the first.
-fn star(count: usize) -> Shape {
+pub(super) fn star(count: usize) -> Shape {
     (vec![0; count], Some(count.saturating_sub(1) as u64))
 }
 
@@ -53,14 +53,14 @@ fn broom(count: usize, chain: usize) -> Shape {
 }
 
 /// Two fields on each, level by level.
-fn levels(count: usize) -> Shape {
+pub(super) fn levels(count: usize) -> Shape {
     let parents = (0..count).map(|i| i.saturating_sub(1) as u32 / 2);
     let moves = (1..=count).map(|number| u64::from(number.ilog2())).sum();
     (parents.collect(), Some(moves))
 }
 
 /// The same with the numbers in the other order.
-fn mirrored((mut parents, moves): Shape) -> Shape {
+pub(super) fn mirrored((mut parents, moves): Shape) -> Shape {
     let last = parents.len().saturating_sub(1) as u32;
     parents.reverse();
     parents.iter_mut().for_each(|parent| *parent = last - *parent);
@@ -68,7 +68,7 @@ fn mirrored((mut parents, moves): Shape) -> Shape {
 }
 
 /// The same with the numbers in any order.
-fn shuffled(random: &mut Random, (parents, moves): Shape) -> Shape {
+pub(super) fn shuffled(random: &mut Random, (parents, moves): Shape) -> Shape {
     let mut numbers: Vec<u32> = (0..parents.len() as u32).collect();
     for i in (1..numbers.len()).rev() {
         numbers.swap(i, random.index(i + 1));
@@ -80,7 +80,7 @@ fn shuffled(random: &mut Random, (parents, moves): Shape) -> Shape {
     (renumbered, moves)
 }
 
-fn count(random: &mut Random) -> usize {
+pub(super) fn count(random: &mut Random) -> usize {
     match random.below(256) {
         0 => random.index(MOST_FIELDS + 1),
         1 => MOST_FIELDS - random.index(3),
@@ -91,7 +91,7 @@ fn count(random: &mut Random) -> usize {
     }
 }
 
-fn shape(random: &mut Random, count: usize) -> Shape {
+pub(super) fn shape(random: &mut Random, count: usize) -> Shape {
     if count == 0 {
         return (Vec::new(), Some(0));
     }
@@ -126,9 +126,12 @@ fn shape(random: &mut Random, count: usize) -> Shape {
     }
 }
 
+/// So many shapes `largest` has.
+pub(super) const LARGEST: u64 = 23;
+
 /// Shapes with as many fields as there may be, or nearly; those of `edges` are
 /// tried too.
-fn largest(random: &mut Random, place: u64) -> Option<Shape> {
+pub(super) fn largest(random: &mut Random, place: u64) -> Option<Shape> {
     Some(match place {
         0 => chains(MOST_FIELDS, MOST_FIELDS),
         1 => mirrored(chains(MOST_FIELDS, MOST_FIELDS)),
@@ -169,7 +172,7 @@ fn largest(random: &mut Random, place: u64) -> Option<Shape> {
 }
 
 /// A header with these parents: what else it has is as in any header.
-fn with_parents(random: &mut Random, parents: Vec<u32>) -> Header {
+pub(super) fn with_parents(random: &mut Random, parents: Vec<u32>) -> Header {
     let mut header = models::header(random);
     let fields = &mut header.fields.items;
     while fields.len() < parents.len() {
