@@ -15,7 +15,7 @@ use Rattle.parents.proofs.EndlessLaws.{all-reach-iff}
 use Rattle.chain_moves.specs.Distances.{Rooted}
 use Rattle.listing.specs.Order.{holder, below, order, orderWhere}
 use Rattle.listing.proofs.OrderLaws.{below-same}
-use Rattle.listing.proofs.RankLaws.{order-few}
+use Rattle.listing.proofs.Front.{front-long, front-few}
 use Rattle.field_order.specs.Links.{upIn, LowestFrom, Linked}
 use Rattle.field_order.specs.Entered.{Entered}
 use Rattle.field_order.proofs.Entering.{entered-none, entered-as}
@@ -46,27 +46,15 @@ module _ (parents : List ℕ) (n : ℕ) (fine : inside parents n ≡ true) where
   chains-are e = sym (rw fine at e)
 
   module _ (ends : AllEnd ≡ chainsOf parents n) {links : List ℕ} (linked : Linked (holder (take n parents)) n 0 links) where
-    cut : length (take n parents) ≡ n
-    cut = length-take-le n parents (inside-few parents n fine .1)
-
-    rooted : Rooted (take n parents)
-    rooted =
-        let c = cut in
-        record {
-          fields = λ f l. let i = inside-is parents n fine f (omega arith) in let e = getD-take n parents f 0 (omega arith) in omega arith;
-          ends = all-reach-iff (take n parents) (length (take n parents)) .1 (rw c (chains-are ends));
-        }
-
     ordered : below (upIn links) n n 0 n ≡ order (take n parents)
     unfolding order
-    ordered = rw cut (below-same (upIn links) (holder (take n parents)) n (λ j l. linked .held j (omega arith) l) n 0 n)
+    ordered = rw (front-long parents n fine) (below-same (upIn links) (holder (take n parents)) n (λ j l. linked .held j (omega arith) l) n 0 n)
 
     pub can-list : (entries : List ℕ) → length entries ≡ 1024
         → Linked (upIn links) n 0 links × ((n ≤ n) × (0 + n ≤ 1024) × (2 * (0 + length (below (upIn links) n n 0 n)) ≤ length entries))
     can-list entries long =
         let few = inside-few parents n fine .0 in
-        let c = cut in
-        let many = order-few (take n parents) rooted (omega arith) in
+        let many = front-few parents n fine (chains-are ends) in
         let same = ap length ordered in
         (linked-own linked, (omega arith, omega arith, omega arith))
 

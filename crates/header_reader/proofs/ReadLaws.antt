@@ -44,16 +44,16 @@ answered-refused {x} f c a e = answered x (rw e) (rw e) (rw e) (rw e)
 
 -- a header that a scan found, and what it left in the arrays
 module _ (e : List ℕ) {scan : HeaderScan} {q : ℕ} (w : found scan q ≡ mapped scanOf (headerOf e)) {p r c a : List ℕ} (k : Scanned (headerOf e) p r c a) where
-  m : Mapped scanOf (headerOf e) scan q
+  pub m : Mapped scanOf (headerOf e) scan q
   m = mapped-found scanOf (headerOf e) w
 
-  left : Rows (m .value .lists) p r c a
+  pub left : Rows (m .value .lists) p r c a
   left = k .holds (m .value) q (m .was)
 
-  is-found : headerOf e ≡ found (m .value) q
+  pub is-found : headerOf e ≡ found (m .value) q
   is-found = m .was
 
-  fields-count : scan .lists .fields ≡ length (m .value .lists .fields)
+  pub fields-count : scan .lists .fields ≡ length (m .value .lists .fields)
   fields-count = ap (λ (x : HeaderScan). x .lists .fields) (m .is)
 
   columns-count : scan .lists .columns ≡ length (m .value .lists .columns)
@@ -64,12 +64,12 @@ module _ (e : List ℕ) {scan : HeaderScan} {q : ℕ} (w : found scan q ≡ mapp
 
   -- the dark marks
 
-  some-parents : take (scan .lists .fields) p ≡ parentsOf (m .value .lists .fields)
+  pub some-parents : take (scan .lists .fields) p ≡ parentsOf (m .value .lists .fields)
   some-parents =
       ap (take (scan .lists .fields)) (left .parentsAre)
       ∙ take-at (parentsOf (m .value .lists .fields)) _ (scan .lists .fields) (length-map (m .value .lists .fields) (λ (r : FieldRow). r .head .parent .0) ∙ sym fields-count)
 
-  few : scan .lists .fields ≤ mostFields
+  pub few : scan .lists .fields ≤ mostFields
   few = let n = fields-count in let b = fields-few e is-found in omega arith
 
   inside : Inside (parentsOf (m .value .lists .fields)) (scan .lists .fields)
@@ -83,7 +83,7 @@ module _ (e : List ℕ) {scan : HeaderScan} {q : ℕ} (w : found scan q ≡ mapp
       ap (λ (t : List ℕ). columnsIn t (scan .lists .columns)) (left .columnsAre) ∙ ap (columnsIn (over (columnTable (m .value .lists)) (replicate (length c) 0))) columns-count
       ∙ columns-back .all (m .value .lists .columns) _
 
-  mark-is : (i : ℕ) → darkMark p (scan .lists .fields) (columnsIn c (scan .lists .columns)) i ≡ bit (dark (parentsOf (m .value .lists .fields)) (m .value .lists .columns) i)
+  pub mark-is : (i : ℕ) → darkMark p (scan .lists .fields) (columnsIn c (scan .lists .columns)) i ≡ bit (dark (parentsOf (m .value .lists .fields)) (m .value .lists .columns) i)
   unfolding darkMark
   mark-is i =
       rw (
