@@ -2,35 +2,31 @@
 use Prim.Native.Nat.{ℕ, zero, suc, _+_, _*_}
 use mathlib.Core.Path.{_≡_, refl, sym, ap, _∙_}
 use mathlib.Core.Bool.{Bool}
-use mathlib.Core.List.{List, [], _∷_, _++_, append-assoc, append-nil}
+use mathlib.Core.List.{List, [], _∷_, _++_, map-append, append-assoc, append-nil}
 use native.Mathlib.Numerals.{add-one}
 use native.Mathlib.Omega.{arith}
-use lib.ListN.{length, replicate, length-append, length-map, length-replicate}
+use lib.ListN.{length, replicate, length-append, length-map, length-replicate, replicate-append-replicate}
 use Rattle.numbers.specs.Rows.{flat}
 use Rattle.decimals.specs.Decimal.{text, decimal}
 use Rattle.rows.specs.Tables.{fieldRow, firstRows}
+use Rattle.rows.proofs.TableLaws.{flat-join}
 use Rattle.listing.specs.Entries.{entryRow}
-use Rattle.listing.specs.Lines.{shownByte, shown, darkWord, line, characters, entryLine, marked}
+use Rattle.listing.specs.Lines.{shown, darkWord, line, characters, entryLine, marked}
 use Rattle.listing_lines.specs.Line.{lineOf, lineBytes}
 use Rattle.listing_lines.specs.declared.line.Line.{Line}
 
--- the pieces of a line
-
-shown-append : (xs ys : List ℕ) → shown (xs ++ ys) ≡ shown xs ++ shown ys
-shown-append [] ys = refl
-shown-append (x ∷ xs) ys = ap (λ (r : List ℕ). shownByte x ∷ r) (shown-append xs ys)
-
+-- spaces print as they are
 shown-spaces : (k : ℕ) → shown (replicate k 32) ≡ replicate k 32
 shown-spaces zero = refl
 shown-spaces (suc k) = ap (λ (r : List ℕ). 32 ∷ r) (shown-spaces k)
 
--- in the order in which they are stored
+-- a line is its pieces, in the order in which they are stored
 pub line-pieces : (level field : ℕ) (name type : List ℕ) (d : Bool)
     → replicate (2 * level) 32 ++ shown (decimal field) ++ shown (text " ") ++ shown name ++ shown (text " ") ++ shown type ++ (shown (darkWord d) ++ text "\n")
     ≡ line level field name type d
 unfolding line
 line-pieces level field name type d =
-    simp (shown-append, shown-spaces) (sym (append-assoc (replicate (2 * level) 32 ++ shown (decimal field) ++ shown (text " ") ++ shown name ++ shown (text " ") ++ shown type) (shown (darkWord d)) (text "\n")))
+    simp (map-append, shown-spaces) (sym (append-assoc (replicate (2 * level) 32 ++ shown (decimal field) ++ shown (text " ") ++ shown name ++ shown (text " ") ++ shown type) (shown (darkWord d)) (text "\n")))
 
 -- how long a line is
 pub line-length : (e : List ℕ) (l : Line)
@@ -39,34 +35,23 @@ unfolding line lineBytes
 line-length e l = simp (length-append, length-map, length-replicate) (omega arith)
 
 -- two spaces more
-pub spaces-next : (i : ℕ) → replicate {A = ℕ} (2 * (i + 1)) 32 ≡ replicate (2 * i) 32 ++ (32 ∷ 32 ∷ [])
+pub spaces-next : (i : ℕ) → replicate (2 * i) 32 ++ (32 ∷ 32 ∷ []) ≡ replicate {A = ℕ} (2 * (i + 1)) 32
 spaces-next i =
-    let twice : 2 * (i + 1) ≡ suc (suc (2 * i)) = omega arith in
-    ap (λ (k : ℕ). replicate {A = ℕ} k 32) twice ∙ more (2 * i)
-  where
-    more : (k : ℕ) → replicate {A = ℕ} (suc (suc k)) 32 ≡ replicate k 32 ++ (32 ∷ 32 ∷ [])
-    more zero = refl
-    more (suc k) = ap (λ (r : List ℕ). 32 ∷ r) (more k)
+    let twice : 2 * i + 2 ≡ 2 * (i + 1) = omega arith in
+    replicate-append-replicate (2 * i) 2 32 ∙ ap (λ (k : ℕ). replicate {A = ℕ} k 32) twice
 
 -- the lines of the first rows of a table
-
-flat-append : {A : Type 0} (w : A → List ℕ) (xs ys : List A) → flat w (xs ++ ys) ≡ flat w xs ++ flat w ys
-unfolding flat
-flat-append w [] ys = refl
-flat-append w (x ∷ xs) ys = ap (λ (r : List ℕ). w x ++ r) (flat-append w xs ys) ∙ sym (append-assoc (w x) (flat w xs) (flat w ys))
-
 module _ (e rows marks entries : List ℕ) where
-  -- of the first i entries
   abbrev pub firstLines : ℕ → List ℕ
   firstLines i = flat (entryLine e (fieldRow rows) (marked marks)) (firstRows entryRow entries i)
 
-  pub no-lines : firstLines 0 ≡ []
+  pub no-lines : [] ≡ firstLines 0
   unfolding flat firstRows
   no-lines = refl
 
   -- one line more, by what it says
-  pub lines-next : (i : ℕ) {l : Line} → l ≡ lineOf rows marks (entryRow entries i) → firstLines (i + 1) ≡ firstLines i ++ lineBytes e l
+  pub lines-next : (i : ℕ) {l : Line} → l ≡ lineOf rows marks (entryRow entries i) → firstLines i ++ lineBytes e l ≡ firstLines (i + 1)
   unfolding flat firstRows entryLine lineBytes lineOf
   lines-next i says =
       let w = entryLine e (fieldRow rows) (marked marks) in
-      rw (add-one i, says) (flat-append w (firstRows entryRow entries i) (entryRow entries i ∷ []) ∙ ap (λ (r : List ℕ). firstLines i ++ r) (append-nil (w (entryRow entries i))))
+      rw (add-one i, says, flat-join w (firstRows entryRow entries i) (entryRow entries i ∷ []), append-nil (w (entryRow entries i)))

@@ -1,5 +1,5 @@
-// Lines stored into lent bytes, piece after piece. Each call answers the place after what it stored; where there is no room its answer
-// says nothing.
+// Lines stored into lent bytes, piece after piece. Each call answers the place after what it stored; where there is no room it stores less,
+// or nothing, and its answer says nothing: whether all lines fit is found out before.
 use crate::line::Line;
 use crate::line::line_of;
 use listing::ENTRY_WORDS;

@@ -21,7 +21,7 @@ abbrev μ-loop : tie.MeasureT-loop
 loop-holds : tie.Need-loop-holds Inv-loop μ-loop
 loop-holds c =
     let a = c .before .before .before .before .args in
-    (zero-le, taken-as (sym (ap length (no-lines (a .envelope .now) (a .fields .now) (a .marks .now) (a .entries .now)))) (taken-none (a .len)))
+    (zero-le, taken-as (ap length (no-lines (a .envelope .now) (a .fields .now) (a .marks .now) (a .entries .now))) (taken-none (a .len)))
 
 line-of-requires : tie.Need-line-of-requires Inv-loop μ-loop
 line-of-requires c κs = search needs
@@ -41,7 +41,7 @@ loop-again c =
     let l = c .before .before .before .loop in
     let next = ap length (lines-next (a .envelope .now) (a .fields .now) (a .marks .now) (a .entries .now) (l .i) (c .before .line-of .ensures)) in
     let both = length-append (firstLines (a .envelope .now) (a .fields .now) (a .marks .now) (a .entries .now) (l .i)) (lineBytes (a .envelope .now) (c .before .line-of .result)) in
-    (omega arith, taken-as (sym (next ∙ both)) (taken-then (l .inv .1) (c .line-room .ensures)))
+    (omega arith, taken-as (sym both ∙ next) (taken-then (l .inv .1) (c .line-room .ensures)))
 
 returns : tie.Need-returns Inv-loop μ-loop
 returns c =

@@ -1,6 +1,6 @@
 -- `listing_lines::store::store_indent` meets its contract. The invariant: two spaces for each of i levels stand there. Assumes nothing.
 use Prim.Native.Nat.{ℕ, _*_, _-_, _≤_, zero-le}
-use mathlib.Core.Path.{_≡_, refl, sym, ap}
+use mathlib.Core.Path.{_≡_, refl, ap}
 use native.Mathlib.Omega.{arith}
 use borrow.Author.Needs.{needs}
 use lib.ListN.{length, replicate}
@@ -32,7 +32,7 @@ loop-less : tie.Need-loop-less Inv-loop μ-loop
 loop-less c = omega arith
 
 loop-again : tie.Need-loop-again Inv-loop μ-loop
-loop-again c = (omega arith, omega (arith, c .before .before .store-bytes .kept, c .before .before .before .before .before .before .loop .inv .1), stored-as (sym (spaces-next (c .before .before .before .before .before .before .loop .i))) (stored-then (c .before .before .before .before .before .before .loop .inv .2) (c .before .before .store-bytes .ensures)))
+loop-again c = (omega arith, omega (arith, c .before .before .store-bytes .kept, c .before .before .before .before .before .before .loop .inv .1), stored-as (spaces-next (c .before .before .before .before .before .before .loop .i)) (stored-then (c .before .before .before .before .before .before .loop .inv .2) (c .before .before .store-bytes .ensures)))
 
 same-length : tie.Need-same-length Inv-loop μ-loop
 same-length c = c .before .loop .inv .1

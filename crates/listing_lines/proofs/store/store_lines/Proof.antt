@@ -1,6 +1,6 @@
 -- `listing_lines::store::store_lines` meets its contract. The invariant: the first i lines stand there. Assumes nothing.
 use Prim.Native.Nat.{_-_, _≤_, _/_, zero-le}
-use mathlib.Core.Path.{_≡_, refl, sym, ap}
+use mathlib.Core.Path.{_≡_, refl, ap}
 use native.Mathlib.Omega.{arith}
 use borrow.Author.Needs.{needs}
 use lib.ListN.{length}
@@ -19,7 +19,7 @@ abbrev μ-loop : tie.MeasureT-loop
 loop-holds : tie.Need-loop-holds Inv-loop μ-loop
 loop-holds c =
     let a = c .before .before .before .before .before .args in
-    (zero-le, refl, stored-as (sym (no-lines (a .envelope .now) (a .fields .now) (a .marks .now) (a .entries .now))) (stored-none _ _))
+    (zero-le, refl, stored-as (no-lines (a .envelope .now) (a .fields .now) (a .marks .now) (a .entries .now)) (stored-none _ _))
 
 line-of-requires : tie.Need-line-of-requires Inv-loop μ-loop
 line-of-requires c κs = search needs
@@ -38,7 +38,7 @@ loop-again c =
     let a = c .before .before .before .before .before .before .before .before .before .before .before .before .args in
     let l = c .before .before .before .before .before .before .loop in
     let next = lines-next (a .envelope .now) (a .fields .now) (a .marks .now) (a .entries .now) (l .i) (c .before .before .before .before .line-of .ensures) in
-    (omega arith, omega (arith, c .before .before .store-line .kept, l .inv .1), stored-as (sym next) (stored-then (l .inv .2) (c .before .before .store-line .ensures)))
+    (omega arith, omega (arith, c .before .before .store-line .kept, l .inv .1), stored-as next (stored-then (l .inv .2) (c .before .before .store-line .ensures)))
 
 same-length : tie.Need-same-length Inv-loop μ-loop
 same-length c = c .before .loop .inv .1
