@@ -1,4 +1,4 @@
-"""The parts of an envelope, and the files of a program that runs cases: for envelope_cases and write_cases."""
+"""The parts of an envelope, and the files of a program that runs cases: for envelope_cases, write_cases and list_cases."""
 
 import os
 import shutil
@@ -10,6 +10,8 @@ LONGEST = 1048576
 NONE = 1 << 32
 # The code where too few result words are lent.
 TOO_SHORT = 4294967295
+# Of more lent bytes checksums are shown.
+SHOWN_BYTES = 128
 
 
 def u16(n):
@@ -69,6 +71,19 @@ def table(words, rows=(), old=9):
 def page_bytes(room, content=b""):
     """How so many lent bytes are printed, with these in front."""
     return " |" + "".join(f" {b:02x}" for b in content + b"\xee" * (room - len(content)))
+
+
+def printed(code, written, room, result_words):
+    """How a call that writes bytes is printed: the answer, the result and the lent bytes, or two checksums of these where they are many."""
+    if result_words == 0:
+        code, written = TOO_SHORT, b""
+    line = f" refused {code // 256} {code % 256}" if code else " accepted"
+    line += table(result_words, (len(written),) if result_words else ())
+    if room <= SHOWN_BYTES:
+        return line + page_bytes(room, written)
+    # Of an envelope with its own checksum the checksum is always the same.
+    front, rest = written[:-4], written[-4:] + b"\xee" * (room - len(written))
+    return line + f" {zlib.crc32(front):08x} {zlib.crc32(rest):08x}"
 
 
 def write_files(folder, cases):

@@ -10,7 +10,7 @@ import zlib
 HERE = os.path.dirname(os.path.abspath(__file__))
 sys.path.insert(0, os.path.join(HERE, "..", "envelope_cases"))
 
-from parts import EMPTY, LONGEST, NONE, TOO_SHORT, checksum_of, envelope, flipped, items, page_bytes, record, string, table, u16, u32, u64, words_of, write_files
+from parts import EMPTY, LONGEST, NONE, checksum_of, envelope, flipped, items, printed, record, string, table, u16, u32, u64, words_of, write_files
 
 CASES = []  # (name, bytes, what is printed)
 
@@ -210,7 +210,7 @@ def page_list_of(header, entries, file_length, pages):
 # The cases. Each lent byte is EE and each lent word 9 before the call. The result, the lent bytes (checksums of them where they are many) and, where
 # the envelope is written, what its reader leaves in tables of as many words as the call was lent are printed.
 
-SHOWN_BYTES, SHOWN_WORDS, READ_WORDS = 128, 128, 8192
+SHOWN_WORDS, READ_WORDS = 128, 8192
 # How many bytes are lent for tables that are refused.
 LITTLE = 8
 
@@ -238,19 +238,6 @@ def lent_table(given):
 def whole(lent):
     words, count = lent
     return words * (count // len(words)) if words else []
-
-
-def printed(code, written, room, result_words):
-    """The answer, the result and the lent bytes."""
-    if result_words == 0:
-        code, written = TOO_SHORT, b""
-    line = f" refused {code // 256} {code % 256}" if code else " accepted"
-    line += table(result_words, (len(written),) if result_words else ())
-    if room <= SHOWN_BYTES:
-        return line + page_bytes(room, written)
-    # Of an envelope with its own checksum the checksum is always the same.
-    front, rest = written[:-4], written[-4:] + b"\xee" * (room - len(written))
-    return line + f" {zlib.crc32(front):08x} {zlib.crc32(rest):08x}"
 
 
 def table_shown(lent, rows):

@@ -2,7 +2,7 @@
 use libc::STDOUT_FILENO;
 ghost use Prim.Native.Nat.{ℕ, _<_, min};
 ghost use mathlib.Core.Path.{_≡_};
-ghost use lib.ListN.{length, getD};
+ghost use lib.ListN.{length, getD, replicate};
 ghost use lib.Dec.{eqb};
 ghost use Rattle.io.specs.Counts.{Counts};
 ghost use Rattle.cases.specs.Words.{wordAt};
@@ -109,4 +109,45 @@ pub fn show_bytes(bytes: &[u8]) -> usize
         i += 1;
     }
     bytes.len()
+}
+
+// Of more lent bytes checksums are shown.
+const SHOWN_BYTES: usize = 128;
+
+// Lent bytes of which so many are written: all, or two checksums. Of an envelope with its own checksum the checksum is always the same, so
+// that the first is of what stands before the last four bytes written, and the second of the rest. Answers how many bytes are lent.
+pub fn show_out(out: &[u8], written: usize) -> usize
+    ensures { λ r. ⌜ r ≡ length (now (out .entry)) ⌝ }
+{
+    if out.len() <= SHOWN_BYTES {
+        return show_bytes(out);
+    }
+    let front = if written < 4 { 0 } else { written - 4 };
+    show_checksum(reader::text_of(out, 0, front));
+    let rest = std::num::wrapping_sub_usize(out.len(), front);
+    show_checksum(reader::text_of(out, front, rest));
+    out.len()
+}
+
+fn show_checksum(bytes: &[u8]) {
+    io::write_all(STDOUT_FILENO, b" ");
+    io::print_hex(STDOUT_FILENO, checksum::crc32(bytes) as u64, 8);
+}
+
+// How many bytes a call has written, by its result: none where that has no words.
+pub fn written(result: &[u64]) -> usize
+    ensures { λ r. ⌜ r ≡ getD (now (result .entry)) 0 0 ⌝ }
+{
+    if result.len() == 0 {
+        return 0;
+    }
+    result[0] as usize
+}
+
+// One byte more than an envelope may have, each the one that is given.
+pub fn filled(byte: u8) -> [u8; 1048577]
+    ensures { λ r. ⌜ 1048577 ≡ length r ⌝ }
+    ensures { λ r. ⌜ r ≡ replicate 1048577 byte ⌝ }
+{
+    [byte; 1048577]
 }

@@ -2,8 +2,6 @@
 mod calls;
 
 use libc::STDOUT_FILENO;
-ghost use mathlib.Core.Path.{_≡_};
-ghost use lib.ListN.{length};
 
 // A case is ten numbers of eight bytes each, of which `calls` names most, and two parts behind them: envelopes or a page, a header and a
 // file, or words and a plane. How many bytes the first part has; the second has the rest.
@@ -31,7 +29,7 @@ fn run(i: usize) {
     let mut input = io::large_buffer();
     let count = cases::read_case(i, &mut input);
     let bytes = &input[..count];
-    let all = zeros();
+    let all = cases::filled(0);
     let mut case = [0u64; 10];
     cases::take_words(bytes, &mut case);
     let stop = std::num::wrapping_add_usize(PARTS, case[FIRST_PART] as usize);
@@ -56,11 +54,4 @@ fn part<'a>(
         return reader::text_of(zeros, 0, case[ZEROS] as usize);
     }
     reader::text_of(bytes, start, std::num::wrapping_sub_usize(stop, start))
-}
-
-// One byte more than an envelope may have.
-fn zeros() -> [u8; 1048577]
-    ensures { λ r. ⌜ 1048577 ≡ length r ⌝ }
-{
-    [0; 1048577]
 }

@@ -1,5 +1,4 @@
 // The calls that a case can ask for, each with the tables and the room that it is lent.
-use libc::STDOUT_FILENO;
 ghost use mathlib.Core.Path.{_≡_};
 ghost use lib.ListN.{length};
 ghost use Rattle.io.specs.Counts.{Counts};
@@ -47,9 +46,7 @@ const FIRST_PART: usize = 14;
 // Where the strings or the header start.
 const PARTS: usize = 120;
 
-// Of more bytes checksums are shown, and more words are not.
-const SHOWN_BYTES: usize = 128;
-
+// More words are not shown.
 const SHOWN_WORDS: usize = 128;
 
 pub fn call(bytes: &[u8]) {
@@ -59,14 +56,14 @@ pub fn call(bytes: &[u8]) {
     if case[ZEROS] == 0 {
         call_with(case, first, bytes);
     } else {
-        let all = filled(0);
+        let all = cases::filled(0);
         call_with(case, reader::text_of(&all, 0, case[ZEROS] as usize), bytes);
     }
 }
 
 // Writes into lent bytes that are EE, with a result of nines.
 fn call_with(case: [u64; 15], first: &[u8], bytes: &[u8]) {
-    let mut lent = filled(238);
+    let mut lent = cases::filled(238);
     let room = io::count((case[ROOM] % 4294967296) as isize, &lent);
     let out = &mut lent[..room];
     let mut nines = [9u64; 4];
@@ -75,36 +72,11 @@ fn call_with(case: [u64; 15], first: &[u8], bytes: &[u8]) {
     let code = write(case, first, bytes, out, result);
     let accepted = cases::show_answer(code, &[], 0);
     cases::show_words(result);
-    let written = first_word(result);
-    show_out(out, written);
+    let written = cases::written(result);
+    cases::show_out(out, written);
     if accepted {
         read_back(case, first, reader::text_of(out, 0, written));
     }
-}
-
-// How many bytes were written: none where there is no result.
-fn first_word(result: &[u64]) -> usize {
-    if result.len() == 0 {
-        return 0;
-    }
-    result[0] as usize
-}
-
-// Of an envelope with its own checksum the checksum is always the same, so that one is shown of what stands before it, and one of the rest.
-fn show_out(out: &[u8], written: usize) {
-    if out.len() <= SHOWN_BYTES {
-        cases::show_bytes(out);
-        return;
-    }
-    let front = if written < 4 { 0 } else { written - 4 };
-    show_checksum(reader::text_of(out, 0, front));
-    let rest = std::num::wrapping_sub_usize(out.len(), front);
-    show_checksum(reader::text_of(out, front, rest));
-}
-
-fn show_checksum(bytes: &[u8]) {
-    io::write_all(STDOUT_FILENO, b" ");
-    io::print_hex(STDOUT_FILENO, exports::rnt_crc32(bytes) as u64, 8);
 }
 
 fn write(case: [u64; 15], first: &[u8], bytes: &[u8], out: &mut [u8], result: &mut [u64]) -> u32 {
@@ -263,13 +235,6 @@ fn show_table(table: &[u64]) {
     if table.len() <= SHOWN_WORDS {
         cases::show_words(table);
     }
-}
-
-// One byte more than an envelope may have.
-fn filled(byte: u8) -> [u8; 1048577]
-    ensures { λ r. ⌜ 1048577 ≡ length r ⌝ }
-{
-    [byte; 1048577]
 }
 
 // Rows of pages for more bytes than an envelope may have.
