@@ -10,6 +10,7 @@ ghost use Rattle.writing.specs.Answers.{headerToWrite, footerToWrite, pageListT
 ghost use Rattle.page_rules.specs.Page.{decodeOutcome, decoded};
 ghost use Rattle.outcome.specs.Outcome.{codeOf};
 ghost use Rattle.envelope_calls.specs.Calls.{HeaderCall, MovesCall, FooterCall, PageListCall};
+ghost use Rattle.list_calls.specs.Calls.{ListCall};
 ghost use Rattle.write_calls.specs.Calls.{WriteCall, textsAt};
 ghost use Rattle.page_calls.specs.Calls.{EncodeCall, asks};
 ghost use Rattle.exports.specs.Calls.{BytesCall, isUtf8};
@@ -49,6 +50,13 @@ pub extern "C" fn rnt_parent_moves(envelope: &[u8], result: &mut [u64]) -> u32
     ensures { λ r. ⌜ MovesCall (headerOf (now (envelope .entry))) (now (result .entry)) (now (result .exit)) r ⌝ }
 {
     envelope_calls::parent_moves(envelope, result)
+}
+
+#[no_mangle]
+pub extern "C" fn rnt_list_fields(envelope: &[u8], out: &mut [u8], result: &mut [u64]) -> u32
+    ensures { λ r. ⌜ ListCall (now (envelope .entry)) (now (out .entry)) (now (out .exit)) (now (result .entry)) (now (result .exit)) r ⌝ }
+{
+    list_calls::list_fields(envelope, out, result)
 }
 
 #[no_mangle]
