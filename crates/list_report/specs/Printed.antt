@@ -1,0 +1,24 @@
+-- What the program prints for the bytes that it reads.
+use Prim.Native.Nat.{ℕ}
+use mathlib.Core.List.{List}
+use lib.ListN.{length}
+use lib.Dec.{leb}
+use Rattle.numbers.specs.Choice.{pick}
+use Rattle.wire.specs.Reading.{Step, found, refused}
+use Rattle.header.specs.Header.{Header}
+use Rattle.header.specs.Tables.{headerOf}
+use Rattle.report.specs.Line.{refusedLine, longerLine}
+use Rattle.listing.specs.Lines.{listing}
+
+-- the most bytes of a listing, and of a header that is listed
+abbrev pub mostBytes : ℕ
+mostBytes = 65536
+
+-- for an envelope and its header: the listing, or the line of a refusal, by 20 where the listing is too long
+unfoldable pub shownFor : List ℕ → Step Header → List ℕ
+shownFor e (found h p) = pick (leb (length (listing e (h .lists))) mostBytes) (listing e (h .lists)) (refusedLine 20)
+shownFor e (refused f) = refusedLine (f .number)
+
+-- all that is printed
+unfoldable pub printed : List ℕ → List ℕ
+printed input = pick (leb (length input) mostBytes) (shownFor input (headerOf input)) longerLine

@@ -1,0 +1,41 @@
+// What the program prints for a header that it lists.
+use header::HeaderAnswer;
+use listing::ListAnswer;
+use report::Line;
+ghost use mathlib.Core.Path.{_≡_};
+ghost use lib.ListN.{length, take};
+ghost use Rattle.numbers.specs.Rows.{over};
+ghost use Rattle.io.specs.Counts.{Counts};
+ghost use Rattle.list_report.specs.Printed.{printed};
+
+// The most bytes of a listing, and of a header that is listed.
+pub const MOST_BYTES: usize = 65536;
+
+// Writes all that is printed for what was read over the first of the lent bytes, and answers how many bytes these are: the listing of a header,
+// or the line that tells why there is none.
+pub fn list_header(input: &[u8], out: &mut [u8; MOST_BYTES]) -> usize
+    ensures { λ r. ⌜ r ≡ length (printed (now (input .entry))) ⌝ }
+    ensures { λ _. ⌜ now (out .exit) ≡ over (printed (now (input .entry))) (now (out .entry)) ⌝ }
+    ensures { λ r. ⌜ Counts r (now (out .exit)) ⌝ }
+{
+    if MOST_BYTES < input.len() {
+        return put_line(report::check_header(input), out);
+    }
+    match field_listing::list_fields(input, out) {
+        ListAnswer::Listed(len) => len,
+        ListAnswer::Refused(number) => {
+            put_line(report::header_line(HeaderAnswer::Refused(number)), out)
+        }
+    }
+}
+
+// Writes a line over the first of the lent bytes.
+fn put_line(line: Line, out: &mut [u8; MOST_BYTES]) -> usize
+    requires { ⌜ Counts (line .len) (line .bytes) ⌝ }
+    ensures { λ r. ⌜ r ≡ line .len ⌝ }
+    ensures { λ _. ⌜ now (out .exit) ≡ over (take (line .len) (line .bytes)) (now (out .entry)) ⌝ }
+{
+    let bytes = line.bytes;
+    let len = line.len;
+    stores::store_bytes(&bytes[..len], 0, out)
+}
