@@ -1,5 +1,6 @@
 pub mod EntryLaws
 pub mod OrderLaws
 pub mod Front
+pub mod TimesLaws
 pub mod ListedLaws
 pub mod RankLaws
