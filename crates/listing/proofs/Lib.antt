@@ -4,3 +4,5 @@ pub mod Front
 pub mod TimesLaws
 pub mod ListedLaws
 pub mod RankLaws
+pub mod NestedLaws
+pub mod Statements

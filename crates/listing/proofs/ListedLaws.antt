@@ -97,7 +97,7 @@ pub record Ranked (up : ℕ → ℕ) (n : ℕ) (rank : ℕ → ℕ) : Type 0 whe
   pub most : (k : ℕ) → k < n → rank k ≤ n
 
 module _ {up : ℕ → ℕ} {n : ℕ} {rank : ℕ → ℕ} (its : Ranked up n rank) where
-  child-rank : (k t : ℕ) → k < n → eqb (up k) t ≡ true → rank k ≡ suc (rank t)
+  pub child-rank : (k t : ℕ) → k < n → eqb (up k) t ≡ true → rank k ≡ suc (rank t)
   child-rank k t l s = its .next k l ∙ ap (λ (x : ℕ). suc (rank x)) (eqb-true (up k) t s)
 
   other-rank : (k g : ℕ) → rank g < rank k → k ≡ g → ⊥

@@ -3,3 +3,4 @@ pub mod Entries
 pub mod Lines
 pub mod Answers
 pub mod Listed
+pub mod Statements
