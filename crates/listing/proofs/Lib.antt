@@ -5,4 +5,6 @@ pub mod TimesLaws
 pub mod ListedLaws
 pub mod RankLaws
 pub mod NestedLaws
+pub mod LineLaws
 pub mod Statements
+pub mod Besides

@@ -1,14 +1,23 @@
 -- What holds of the listing of every accepted header.
 use Prim.Native.Nat.{ℕ, _-_, _≤_, _<_}
 use mathlib.Core.Path.{_≡_}
+use mathlib.Core.Logic.{_⊎_}
 use mathlib.Core.List.{List, [], _∷_}
 use lib.ListN.{length, getD, drop}
 use Rattle.wire.specs.Reading.{found}
 use Rattle.chain_moves.specs.Moves.{moves}
-use Rattle.header.specs.Header.{Header}
+use Rattle.header.specs.Header.{Header, Lists}
 use Rattle.header.specs.Tables.{headerOf, parentsOf}
+use Rattle.header.specs.Tables.{Answered as HeaderAnswered}
+use Rattle.header.specs.declared.HeaderTables.{HeaderTables}
+use Rattle.header.specs.declared.HeaderAnswer.{HeaderAnswer}
+use Rattle.header.specs.declared.HeaderAnswer.the-variants.{Accepted as HeaderAccepted, Refused as HeaderRefused}
 use Rattle.listing.specs.Order.{Entry, holder, order}
 use Rattle.listing.specs.Listed.{fieldsIn, times, Every, numbersBelow, childrenIn}
+use Rattle.listing.specs.Lines.{shownByte, listing}
+use Rattle.listing.specs.Answers.{Answered}
+use Rattle.listing.specs.declared.ListAnswer.{ListAnswer}
+use Rattle.listing.specs.declared.ListAnswer.the-variants.{Listed, Refused}
 
 -- each number below n is in a list exactly once, and no other number is
 pub record OnceEach (n : ℕ) (l : List ℕ) : Type 0 where
@@ -51,3 +60,30 @@ SiblingsRise =
     → (g : ℕ) → g ≤ length (h .lists .fields)
     → childrenIn (holder (parentsOf (h .lists .fields))) g (fieldsIn (order (parentsOf (h .lists .fields))))
     ≡ childrenIn (holder (parentsOf (h .lists .fields))) g (numbersBelow (length (h .lists .fields)))
+
+-- The listing has as many line ends as fields.
+abbrev pub OneLineEach : Type 0
+OneLineEach = (e : List ℕ) (h : Header) (p : ℕ) → headerOf e ≡ found h p → times 10 (listing e (h .lists)) ≡ length (h .lists .fields)
+
+-- Every other byte of it is at least 32 and not 127: no name ends a line, or hides one.
+abbrev pub Printable : Type 0
+Printable = (e : List ℕ) (l : Lists) → Every (λ b. (b ≡ 10) ⊎ ((32 ≤ b) × (b ≡ 127 → ⊥))) (listing e l)
+
+-- Such a byte of a name or a type's name stands as it is, also one of 128 and above.
+abbrev pub BytesKept : Type 0
+BytesKept = (b : ℕ) → 32 ≤ b → (b ≡ 127 → ⊥) → shownByte b ≡ b
+
+-- Beside any call of the header's reader for the same envelope e, with so many bytes lent here: where that accepts, the header is listed, or
+-- refused 20 where the bytes are too few; a refusal is that call's, except 20, which is about other room in each of the two.
+pub record BesideReader (e : List ℕ) (room : ℕ) (r : HeaderAnswer) (s : ListAnswer) : Type 0 where
+  pub accepts : (t : HeaderTables) → r ≡ HeaderAccepted t
+      → (h : Header) × (p : ℕ) × (headerOf e ≡ found h p)
+      × (((length (listing e (h .lists)) ≤ room) × (s ≡ Listed (length (listing e (h .lists)))))
+      ⊎ ((room < length (listing e (h .lists))) × (s ≡ Refused 20)))
+  pub refuses : (k : ℕ) → r ≡ HeaderRefused k → (k ≡ 20 → ⊥) → s ≡ Refused k
+  pub refused : (k : ℕ) → s ≡ Refused k → (k ≡ 20 → ⊥) → r ≡ HeaderRefused k
+
+abbrev pub ListBesideReader : Type 0
+ListBesideReader =
+    (e f f′ c c′ a a′ out out′ : List ℕ) (r : HeaderAnswer) (s : ListAnswer)
+    → HeaderAnswered (headerOf e) f f′ c c′ a a′ r → Answered e out out′ s → BesideReader e (length out) r s
