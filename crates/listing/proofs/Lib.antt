@@ -8,3 +8,4 @@ pub mod NestedLaws
 pub mod LineLaws
 pub mod Statements
 pub mod Besides
+pub mod Samples

@@ -4,3 +4,4 @@ pub mod Lines
 pub mod Answers
 pub mod Listed
 pub mod Statements
+pub mod Samples
