@@ -15,7 +15,7 @@ use Rattle.chain_moves.specs.Distances.{sumBelow}
 use Rattle.listing.specs.Order.{Entry, joined, below, branch}
 use Rattle.listing.specs.Listed.{fieldsIn, times, Every, numbersBelow, childrenIn}
 use Rattle.listing.proofs.TimesLaws.{every-joined, every-map, sum-constant, times-joined, times-none, times-numbers, times-length, times-never}
-use Rattle.listing.proofs.OrderLaws.{joined-same, joined-skip}
+use Rattle.listing.proofs.OrderLaws.{joined-each, joined-same, joined-skip}
 
 -- the fields that hang on one
 
@@ -26,9 +26,8 @@ module _ (up : ℕ → ℕ) (g : ℕ) where
   children-append (x ∷ xs) ys = rw (children-append xs ys) (sym (append-assoc (pick (eqb (up x) g) (x ∷ []) []) (childrenIn up g xs) (childrenIn up g ys)))
 
   children-joined : (h : ℕ → List ℕ) (m : ℕ) → childrenIn up g (joined h m) ≡ joined (λ k. childrenIn up g (h k)) m
-  unfolding joined childrenIn
-  children-joined h zero = refl
-  children-joined h (suc m) = rw (children-append (joined h m) (h m), children-joined h m)
+  unfolding childrenIn
+  children-joined = joined-each (childrenIn up g) refl children-append
 
 -- a field is as often among those that hang on what it hangs on
 times-children : (up : ℕ → ℕ) (f : ℕ) (l : List ℕ) → times f (childrenIn up (up f) l) ≡ times f l
@@ -66,16 +65,11 @@ unfoldable listed : (ℕ → ℕ) → ℕ → ℕ → ℕ → List ℕ
 listed up n zero t = []
 listed up n (suc left) t = joined (λ k. pick (eqb (up k) t) (k ∷ listed up n left k) []) n
 
-fields-joined : (g : ℕ → List Entry) (m : ℕ) → fieldsIn (joined g m) ≡ joined (λ k. fieldsIn (g k)) m
-unfolding joined
-fields-joined g zero = refl
-fields-joined g (suc m) = map-append (λ (x : Entry). x .field) (joined g m) (g m) ∙ rw (fields-joined g m)
-
 fields-listed : (up : ℕ → ℕ) (n left level t : ℕ) → fieldsIn (below up n left level t) ≡ listed up n left t
 unfolding below listed
 fields-listed up n zero level t = refl
 fields-listed up n (suc left) level t =
-    fields-joined (branch up n left level t) n
+    joined-each fieldsIn refl (map-append (λ (x : Entry). x .field)) (branch up n left level t) n
     ∙ joined-same (λ k. fieldsIn (branch up n left level t k)) (λ k. pick (eqb (up k) t) (k ∷ listed up n left k) []) n
     (λ k l. ⊎-elim (λ s. rw s (ap (λ (r : List ℕ). k ∷ r) (fields-listed up n left (suc level) k))) (λ s. rw s) (which (eqb (up k) t)))
 

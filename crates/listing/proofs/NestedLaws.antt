@@ -9,7 +9,8 @@ use lib.Dec.{eqb}
 use lib.ListN.{length, getD, length-append}
 use lib.Seq.{drop-at}
 use Rattle.numbers.proofs.Choice.{which}
-use Rattle.listing.specs.Order.{Entry, joined, below, branch, holder, order}
+use Rattle.listing.specs.Order.{Entry, below, branch, holder, order}
+use Rattle.listing.proofs.OrderLaws.{joined-all}
 use Rattle.listing.specs.Statements.{openAbove, Nested, ParentsShown}
 
 module _ (up : ℕ → ℕ) (root : ℕ) where
@@ -19,11 +20,6 @@ module _ (up : ℕ → ℕ) (root : ℕ) where
 
   under-append : (b : List ℕ) (xs ys : List Entry) → Under b xs → Under b ys → Under b (xs ++ ys)
   under-append b xs ys u v deep rest r = rw (append-assoc xs ys rest) (u deep (ys ++ rest) (λ d. v d rest r))
-
-  under-joined : (b : List ℕ) (g : ℕ → List Entry) (m : ℕ) → ((k : ℕ) → Under b (g k)) → Under b (joined g m)
-  unfolding joined
-  under-joined b g zero h = λ deep rest r. r deep
-  under-joined b g (suc m) h = under-append b (joined g m) (g m) (under-joined b g m h) (h m)
 
   -- a line whose field hangs on the innermost field of b, and lines below that field
   under-line : (k level : ℕ) (b : List ℕ) (l : List Entry) → length b ≡ level → up k ≡ getD b 0 root → Under (k ∷ b) l → Under b (record { field = k; level = level } ∷ l)
@@ -39,8 +35,8 @@ module _ (up : ℕ → ℕ) (root : ℕ) where
   unfolding below
   under-below n zero level g b e h = λ deep rest r. r deep
   under-below n (suc left) level g b e h =
-      under-joined b (branch up n left level g) n
-      (λ k.
+      joined-all (Under b) (λ deep rest r. r deep) (under-append b) (branch up n left level g) n
+      (λ k _.
       ⊎-elim
       (λ t. rw t (under-line k level b (below up n left (suc level) k) e (eqb-true (up k) g t ∙ sym h) (under-below n left (suc level) k (k ∷ b) (ap suc e) refl)))
       (λ t. rw t (λ deep rest r. r deep))

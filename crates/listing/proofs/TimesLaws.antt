@@ -13,6 +13,7 @@ use Rattle.numbers.proofs.Choice.{which}
 use Rattle.chain_moves.specs.Distances.{sumBelow}
 use Rattle.listing.specs.Order.{joined}
 use Rattle.listing.specs.Listed.{times, Every, numbersBelow}
+use Rattle.listing.proofs.OrderLaws.{joined-all}
 
 -- each thing of a list
 
@@ -22,9 +23,7 @@ module _ {A : Type 0} (such : A → Type 0) where
   every-append (x ∷ xs) ys a b = (a .0, every-append xs ys (a .1) b)
 
   pub every-joined : (g : ℕ → List A) (m : ℕ) → ((k : ℕ) → k < m → Every such (g k)) → Every such (joined g m)
-  unfolding joined
-  every-joined g zero h = tt
-  every-joined g (suc m) h = every-append (joined g m) (g m) (every-joined g m (λ k l. h k (omega arith))) (h m (omega arith))
+  every-joined = joined-all (Every such) tt every-append
 
 pub every-map : {A : Type 0} {such other : A → Type 0} → ((x : A) → such x → other x) → (l : List A) → Every such l → Every other l
 every-map f [] w = tt
@@ -72,7 +71,8 @@ times-joined f g zero = refl
 times-joined f g (suc m) = rw (times-append f (joined g m) (g m), times-joined f g m)
 
 pub times-none : (f : ℕ) (g : ℕ → List ℕ) (m : ℕ) → ((k : ℕ) → k < m → times f (g k) ≡ 0) → times f (joined g m) ≡ 0
-times-none f g m h = times-joined f g m ∙ sum-constant 0 (λ k. times f (g k)) m h ∙ omega arith
+unfolding times
+times-none f = joined-all (λ l. times f l ≡ 0) refl (λ xs ys a b. let r = times-append f xs ys in omega arith)
 
 eqb-swap : (a b : ℕ) → eqb a b ≡ eqb b a
 eqb-swap a b =
