@@ -9,3 +9,5 @@ pub mod LineLaws
 pub mod Statements
 pub mod Besides
 pub mod Samples
+pub mod TellingLaws
+pub mod ReadLaws

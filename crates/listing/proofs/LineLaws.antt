@@ -21,7 +21,7 @@ use Rattle.listing.specs.Statements.{OneLineEach, Printable, BytesKept}
 use Rattle.listing.proofs.TimesLaws.{every-append, every-map, times-append, times-never}
 use Rattle.listing.proofs.RankLaws.{as-many}
 
-abbrev Plain : ℕ → Type 0
+abbrev pub Plain : ℕ → Type 0
 Plain b = (32 ≤ b) × (b ≡ 127 → ⊥)
 
 pub bytes-kept : BytesKept
@@ -32,7 +32,7 @@ byte-plain b true last e f = (omega arith, λ z. omega arith)
 byte-plain b false true e f = (omega arith, λ z. omega arith)
 byte-plain b false false e f = (ltb-false b 32 e, eqb-false b 127 f)
 
-shown-plain : (l : List ℕ) → Every Plain (shown l)
+pub shown-plain : (l : List ℕ) → Every Plain (shown l)
 shown-plain [] = tt
 shown-plain (b ∷ l) = (byte-plain b (ltb b 32) (eqb b 127) refl refl, shown-plain l)
 

@@ -87,3 +87,9 @@ abbrev pub ListBesideReader : Type 0
 ListBesideReader =
     (e f f′ c c′ a a′ out out′ : List ℕ) (r : HeaderAnswer) (s : ListAnswer)
     → HeaderAnswered (headerOf e) f f′ c c′ a a′ r → Answered e out out′ s → BesideReader e (length out) r s
+
+-- So the bytes of a listing tell the tree, whatever the names are: accepted headers with the same listing have the same parents.
+abbrev pub ListingTells : Type 0
+ListingTells =
+    (e e′ : List ℕ) (h h′ : Header) (p p′ : ℕ) → headerOf e ≡ found h p → headerOf e′ ≡ found h′ p′
+    → listing e (h .lists) ≡ listing e′ (h′ .lists) → parentsOf (h .lists .fields) ≡ parentsOf (h′ .lists .fields)
