@@ -1,27 +1,20 @@
 -- The bytes of a listing tell the field and the level of each line.
-use Prim.Native.Nat.{ℕ, zero, suc, _+_, _*_, _-_, _/_, _%_, _≤_, _<_}
-use mathlib.Core.Path.{_≡_, refl, sym, ap, subst, _∙_}
-use mathlib.Core.Logic.{⊎-elim}
-use mathlib.Core.Bool.{Bool, true, false}
-use mathlib.Core.List.{List, [], _∷_, _++_, append-assoc, map-append}
+use Prim.Native.Nat.{ℕ, zero, suc, _*_, _≤_}
+use mathlib.Core.Path.{_≡_, refl, sym, ap, _∙_}
+use mathlib.Core.List.{List, [], _∷_, _++_, append-assoc}
 use native.Mathlib.Omega.{arith}
-use borrow.Author.Tests.{ltb-true, ltb-false}
-use lib.Dec.{ltb}
 use lib.ListN.{length, replicate, length-append}
-use Rattle.numbers.specs.Choice.{pick}
 use Rattle.numbers.specs.Rows.{flat}
-use Rattle.numbers.proofs.Choice.{which}
-use Rattle.decimals.specs.Decimal.{text, decimalBy, decimal}
-use Rattle.rows.specs.declared.FieldRow.{FieldRow}
-use Rattle.header.specs.Header.{Lists}
+use Rattle.decimals.specs.Decimal.{decimal}
 use Rattle.header.specs.Tables.{parentsOf}
 use Rattle.moves.proofs.Laws.{header-rooted}
 use Rattle.listing.specs.Order.{Entry, order}
 use Rattle.listing.specs.Listed.{Every}
-use Rattle.listing.specs.Lines.{shownByte, shown, darkWord, line, entryLine, rowIn, darkIn, listing}
+use Rattle.listing.specs.Lines.{entryLine, rowIn, darkIn, listing}
 use Rattle.listing.specs.Statements.{ListingTells}
-use Rattle.listing.proofs.TimesLaws.{every-append, every-map}
-use Rattle.listing.proofs.LineLaws.{Plain, bytes-kept, shown-plain}
+use Rattle.listing.proofs.TimesLaws.{every-map}
+use Rattle.listing.proofs.DigitLaws.{decimal-some, decimal-digits, decimal-same}
+use Rattle.listing.proofs.LineLaws.{front, Starts, entry-starts}
 use Rattle.listing.proofs.TellingLaws.{order-tells}
 
 -- two lists of bytes in front of a byte that is in neither
@@ -48,68 +41,6 @@ runs k (suc j) (suc j′) (x ∷ d) (x′ ∷ d′) b b′ l m u v e =
     let r = runs k j j′ (x ∷ d) (x′ ∷ d′) b b′ l m u v rest in
     (ap suc (r .0), r .1)
 
--- decimal digits
-
--- the number that digits are, after those read before
-value : ℕ → List ℕ → ℕ
-value before [] = before
-value before (b ∷ l) = value (10 * before + (b - 48)) l
-
-value-append : (before : ℕ) (xs ys : List ℕ) → value before (xs ++ ys) ≡ value (value before xs) ys
-unfolding value
-value-append before [] ys = refl
-value-append before (x ∷ xs) ys = value-append (10 * before + (x - 48)) xs ys
-
-decimal-value : (steps n : ℕ) → value 0 (decimalBy steps n) ≡ n
-unfolding decimalBy value
-decimal-value zero n = omega arith
-decimal-value (suc steps) n =
-    ⊎-elim (λ t. rw t (omega arith))
-    (λ t. rw t (value-append 0 (decimalBy steps (n / 10)) ((48 + n % 10) ∷ []) ∙ (let r = decimal-value steps (n / 10) in omega arith)))
-    (which (ltb n 10))
-
-decimal-some : (steps n : ℕ) → 1 ≤ length (decimalBy steps n)
-unfolding decimalBy
-decimal-some zero n = omega arith
-decimal-some (suc steps) n =
-    ⊎-elim (λ t. rw t (omega arith)) (λ t. rw t (omega (arith, length-append (decimalBy steps (n / 10)) ((48 + n % 10) ∷ [])))) (which (ltb n 10))
-
-abbrev Digit : ℕ → Type 0
-Digit b = (48 ≤ b) × (b < 58)
-
-decimal-digits : (steps n : ℕ) → n ≤ steps → Every Digit (decimalBy steps n)
-unfolding decimalBy
-decimal-digits zero n l = ((omega arith, omega arith), tt)
-decimal-digits (suc steps) n l =
-    ⊎-elim (λ t. rw t ((omega arith, omega (arith, ltb-true n 10 t)), tt))
-    (λ t.
-    let m = ltb-false n 10 t in
-    rw t (every-append Digit (decimalBy steps (n / 10)) ((48 + n % 10) ∷ []) (decimal-digits steps (n / 10) (omega arith)) ((omega arith, omega arith), tt)))
-    (which (ltb n 10))
-
-decimal-same : (n m : ℕ) → decimal n ≡ decimal m → n ≡ m
-decimal-same n m e = sym (decimal-value n n) ∙ ap (value 0) e ∙ decimal-value m m
-
--- what is shown of bytes that print is they themselves
-
-kept : (l : List ℕ) → Every Plain l → shown l ≡ l
-kept [] w = refl
-kept (b ∷ l) w = λ i. bytes-kept b (w .0 .0) (w .0 .1) i ∷ kept l (w .1) i
-
-spaces-plain : (k : ℕ) → Every Plain (replicate k 32)
-spaces-plain zero = tt
-spaces-plain (suc k) = ((omega arith, λ e. omega arith), spaces-plain k)
-
-digits-plain : (n : ℕ) → Every Plain (decimal n)
-digits-plain n = every-map (λ b w. let l = w .0 in let m = w .1 in (omega arith, λ e. omega arith)) (decimal n) (decimal-digits n n (omega arith))
-
-kept-front : (a l : List ℕ) → Every Plain a → shown (a ++ l) ≡ a ++ shown l
-kept-front a l w = map-append shownByte a l ∙ ap (λ (r : List ℕ). r ++ shown l) (kept a w)
-
--- how a line starts
-abbrev front : Entry → List ℕ → List ℕ
-front x rest = replicate (2 * x .level) 32 ++ (decimal (x .field) ++ (32 ∷ rest))
-
 front-same : (x x′ : Entry) (r r′ : List ℕ) → front x r ≡ front x′ r′ → x ≡ x′
 front-same x x′ r r′ e =
     let digits : (n : ℕ) → Every (λ b. b ≡ 32 → ⊥) (decimal n) = λ n. every-map (λ b w e. let l = w .0 in omega arith) (decimal n) (decimal-digits n n (omega arith)) in
@@ -120,28 +51,6 @@ front-same x x′ r r′ e =
     let level : x .level ≡ x′ .level = let c = a .0 in omega arith in
     let field = decimal-same f g (b .0) in
     λ i. record { field = field i; level = level i }
-
--- a line starts so, and has one end
-pub record Starts (w : List ℕ) (x : Entry) : Type 0 where
-  pub rest : List ℕ
-  pub plain : Every Plain (front x rest)
-  pub whole : w ≡ front x rest ++ (10 ∷ [])
-
-line-starts : (level field : ℕ) (name type : List ℕ) (d : Bool) → Starts (line level field name type d) (record { field = field; level = level })
-unfolding line
-line-starts level field name type d =
-    let rest = name ++ text " " ++ type ++ darkWord d in
-    let whole = replicate (2 * level) 32 ++ decimal field ++ text " " ++ name ++ text " " ++ type ++ darkWord d in
-    let parts : whole ≡ replicate (2 * level) 32 ++ (decimal field ++ (32 ∷ rest)) = simp append-assoc in
-    let same : shown whole ≡ replicate (2 * level) 32 ++ (decimal field ++ (32 ∷ shown rest))
-    = ap shown parts
-    ∙ kept-front (replicate (2 * level) 32) (decimal field ++ (32 ∷ rest)) (spaces-plain (2 * level))
-    ∙ ap (λ (r : List ℕ). replicate (2 * level) 32 ++ r) (kept-front (decimal field) (32 ∷ rest) (digits-plain field)) in
-    record { rest = shown rest; plain = subst (Every Plain) same (shown-plain whole); whole = ap (λ (r : List ℕ). r ++ (10 ∷ [])) same }
-
-entry-starts : (e : List ℕ) (row : ℕ → FieldRow) (d : ℕ → Bool) (x : Entry) → Starts (entryLine e row d x) x
-unfolding entryLine
-entry-starts e row d x = line-starts (x .level) (x .field) _ _ _
 
 -- a line and what follows it: something, and the line's end in its place
 

@@ -73,6 +73,12 @@ Printable = (e : List ℕ) (l : Lists) → Every (λ b. (b ≡ 10) ⊎ ((32 ≤ 
 abbrev pub BytesKept : Type 0
 BytesKept = (b : ℕ) → 32 ≤ b → (b ≡ 127 → ⊥) → shownByte b ≡ b
 
+-- The bytes of a listing tell the tree, whatever the names are: accepted headers with the same listing have the same parents.
+abbrev pub ListingTells : Type 0
+ListingTells =
+    (e e′ : List ℕ) (h h′ : Header) (p p′ : ℕ) → headerOf e ≡ found h p → headerOf e′ ≡ found h′ p′
+    → listing e (h .lists) ≡ listing e′ (h′ .lists) → parentsOf (h .lists .fields) ≡ parentsOf (h′ .lists .fields)
+
 -- Beside any call of the header's reader for the same envelope e, with so many bytes lent here: where that accepts, the header is listed, or
 -- refused 20 where the bytes are too few; a refusal is that call's, except 20, which is about other room in each of the two.
 pub record BesideReader (e : List ℕ) (room : ℕ) (r : HeaderAnswer) (s : ListAnswer) : Type 0 where
@@ -87,9 +93,3 @@ abbrev pub ListBesideReader : Type 0
 ListBesideReader =
     (e f f′ c c′ a a′ out out′ : List ℕ) (r : HeaderAnswer) (s : ListAnswer)
     → HeaderAnswered (headerOf e) f f′ c c′ a a′ r → Answered e out out′ s → BesideReader e (length out) r s
-
--- So the bytes of a listing tell the tree, whatever the names are: accepted headers with the same listing have the same parents.
-abbrev pub ListingTells : Type 0
-ListingTells =
-    (e e′ : List ℕ) (h h′ : Header) (p p′ : ℕ) → headerOf e ≡ found h p → headerOf e′ ≡ found h′ p′
-    → listing e (h .lists) ≡ listing e′ (h′ .lists) → parentsOf (h .lists .fields) ≡ parentsOf (h′ .lists .fields)
