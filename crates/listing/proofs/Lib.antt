@@ -1,5 +1,14 @@
-pub mod EntryLaws
 pub mod OrderLaws
+pub mod EntryLaws
 pub mod Front
+pub mod TimesLaws
 pub mod ListedLaws
 pub mod RankLaws
+pub mod NestedLaws
+pub mod DigitLaws
+pub mod LineLaws
+pub mod Statements
+pub mod TellingLaws
+pub mod ReadLaws
+pub mod Besides
+pub mod Samples

@@ -1,88 +1,21 @@
 -- Each field is listed exactly once, where each has a rank one above that of what it hangs on. Assumes nothing.
-use Prim.Native.Nat.{ℕ, zero, suc, _+_, _*_, _≤_, _<_}
+use Prim.Native.Nat.{ℕ, zero, suc, _+_, _≤_, _<_}
 use mathlib.Core.Path.{_≡_, refl, sym, ap, _∙_}
 use mathlib.Core.Logic.{⊎-elim}
 use mathlib.Core.Bool.{true}
 use mathlib.Core.List.{List, [], _∷_, _++_, append-assoc, append-nil, map-append}
-use native.Mathlib.Nat.{add-zero, zero-add, suc-add, mul-suc}
+use native.Mathlib.Nat.{zero-add, suc-add}
 use native.Mathlib.Omega.{arith}
-use borrow.Author.Tests.{eq-eqb, ne-eqb, eqb-true, eqb-false, lt-ltb, le-ltb, ltb-true, ltb-false}
+use borrow.Author.Tests.{eq-eqb, ne-eqb, eqb-true, eqb-false, lt-ltb, ltb-true, ltb-false}
 use lib.Dec.{eqb, ltb}
 use lib.ListN.{length, length-map}
 use Rattle.numbers.specs.Choice.{pick}
 use Rattle.numbers.proofs.Choice.{which}
 use Rattle.chain_moves.specs.Distances.{sumBelow}
 use Rattle.listing.specs.Order.{Entry, joined, below, branch}
-use Rattle.listing.specs.Listed.{fieldsIn, times, AllBelow, numbersBelow, childrenIn}
-use Rattle.listing.proofs.OrderLaws.{joined-same, joined-skip}
-
--- sums
-
-sum-add : (a b : ℕ → ℕ) (m : ℕ) → sumBelow (λ f. a f + b f) m ≡ sumBelow a m + sumBelow b m
-unfolding sumBelow
-sum-add a b zero = refl
-sum-add a b (suc m) = let r = sum-add a b m in omega arith
-
-sum-constant : (c : ℕ) (t : ℕ → ℕ) (m : ℕ) → ((f : ℕ) → f < m → t f ≡ c) → sumBelow t m ≡ c * m
-unfolding sumBelow
-sum-constant c t zero h = omega arith
-sum-constant c t (suc m) h =
-    let r = sum-constant c t m (λ f l. h f (omega arith)) in let s = h m (omega arith) in rw (mul-suc c m) (omega arith)
-
--- of the numbers below m one is x, if x is below m
-sum-one : (x m : ℕ) → sumBelow (λ k. pick (eqb k x) 1 0) m ≡ pick (ltb x m) 1 0
-unfolding sumBelow
-sum-one x zero = rw (le-ltb x 0 (omega arith))
-sum-one x (suc m) =
-    let r = sum-one x m in
-    ⊎-elim
-    (λ t. let same = eqb-true m x t in rw (t, r, le-ltb x m (omega arith), lt-ltb x (suc m) (omega arith)))
-    (λ t.
-    let other = eqb-false m x t in
-    ⊎-elim
-    (λ u. let l = ltb-true x m u in rw (t, r, u, lt-ltb x (suc m) (omega arith)))
-    (λ u. let l = ltb-false x m u in let more : suc m ≤ x = omega arith in rw (t, r, u, le-ltb x (suc m) more))
-    (which (ltb x m)))
-    (which (eqb m x))
-
--- how often a number is in a list
-
-times-append : (f : ℕ) (xs ys : List ℕ) → times f (xs ++ ys) ≡ times f xs + times f ys
-unfolding times
-times-append f [] ys = omega arith
-times-append f (x ∷ xs) ys = let r = times-append f xs ys in omega arith
-
-times-joined : (f : ℕ) (g : ℕ → List ℕ) (m : ℕ) → times f (joined g m) ≡ sumBelow (λ k. times f (g k)) m
-unfolding joined sumBelow times
-times-joined f g zero = refl
-times-joined f g (suc m) = rw (times-append f (joined g m) (g m), times-joined f g m)
-
-times-none : (f : ℕ) (g : ℕ → List ℕ) (m : ℕ) → ((k : ℕ) → k < m → times f (g k) ≡ 0) → times f (joined g m) ≡ 0
-times-none f g m h = times-joined f g m ∙ sum-constant 0 (λ k. times f (g k)) m h ∙ omega arith
-
-eqb-swap : (a b : ℕ) → eqb a b ≡ eqb b a
-eqb-swap a b =
-    ⊎-elim (λ t. t ∙ sym (eq-eqb b a (sym (eqb-true a b t)))) (λ t. t ∙ sym (ne-eqb b a (λ e. eqb-false a b t (sym e)))) (which (eqb a b))
-
-times-numbers : (f n : ℕ) → times f (numbersBelow n) ≡ pick (ltb f n) 1 0
-unfolding times
-times-numbers f n = times-joined f (λ k. k ∷ []) n ∙ ap (λ (t : ℕ → ℕ). sumBelow t n) (λ i k. add-zero (pick (eqb k f) 1 0) i) ∙ sum-one f n
-
--- a list of numbers below n is as long as all of them are often in it
-times-length : (n : ℕ) (l : List ℕ) → AllBelow n l → sumBelow (λ f. times f l) n ≡ length l
-unfolding times
-times-length n [] w = sum-constant 0 (λ _. 0) n (λ _ _. refl) ∙ omega arith
-times-length n (x ∷ l) w =
-    let r = times-length n l (w .1) in
-    let b : sumBelow (λ f. pick (eqb x f) 1 0) n ≡ 1
-    = ap (λ (t : ℕ → ℕ). sumBelow t n) (λ i f. pick (eqb-swap x f i) 1 0) ∙ sum-one x n ∙ rw (lt-ltb x n (w .0)) in
-    sum-add (λ f. pick (eqb x f) 1 0) (λ f. times f l) n ∙ omega arith
-
-times-above : (n f : ℕ) → n ≤ f → (l : List ℕ) → AllBelow n l → times f l ≡ 0
-unfolding times
-times-above n f h [] w = refl
-times-above n f h (x ∷ l) w =
-    let r = times-above n f h l (w .1) in let s = w .0 in rw (ne-eqb x f (λ e. omega arith)) (omega arith)
+use Rattle.listing.specs.Listed.{fieldsIn, times, Every, numbersBelow, childrenIn}
+use Rattle.listing.proofs.TimesLaws.{every-joined, every-map, sum-constant, times-joined, times-none, times-numbers, times-length, times-never}
+use Rattle.listing.proofs.OrderLaws.{joined-each, joined-same, joined-skip}
 
 -- the fields that hang on one
 
@@ -93,9 +26,8 @@ module _ (up : ℕ → ℕ) (g : ℕ) where
   children-append (x ∷ xs) ys = rw (children-append xs ys) (sym (append-assoc (pick (eqb (up x) g) (x ∷ []) []) (childrenIn up g xs) (childrenIn up g ys)))
 
   children-joined : (h : ℕ → List ℕ) (m : ℕ) → childrenIn up g (joined h m) ≡ joined (λ k. childrenIn up g (h k)) m
-  unfolding joined childrenIn
-  children-joined h zero = refl
-  children-joined h (suc m) = rw (children-append (joined h m) (h m), children-joined h m)
+  unfolding childrenIn
+  children-joined = joined-each (childrenIn up g) refl children-append
 
 -- a field is as often among those that hang on what it hangs on
 times-children : (up : ℕ → ℕ) (f : ℕ) (l : List ℕ) → times f (childrenIn up (up f) l) ≡ times f l
@@ -133,36 +65,22 @@ unfoldable listed : (ℕ → ℕ) → ℕ → ℕ → ℕ → List ℕ
 listed up n zero t = []
 listed up n (suc left) t = joined (λ k. pick (eqb (up k) t) (k ∷ listed up n left k) []) n
 
-fields-joined : (g : ℕ → List Entry) (m : ℕ) → fieldsIn (joined g m) ≡ joined (λ k. fieldsIn (g k)) m
-unfolding joined
-fields-joined g zero = refl
-fields-joined g (suc m) = map-append (λ (x : Entry). x .field) (joined g m) (g m) ∙ rw (fields-joined g m)
-
 fields-listed : (up : ℕ → ℕ) (n left level t : ℕ) → fieldsIn (below up n left level t) ≡ listed up n left t
 unfolding below listed
 fields-listed up n zero level t = refl
 fields-listed up n (suc left) level t =
-    fields-joined (branch up n left level t) n
+    joined-each fieldsIn refl (map-append (λ (x : Entry). x .field)) (branch up n left level t) n
     ∙ joined-same (λ k. fieldsIn (branch up n left level t k)) (λ k. pick (eqb (up k) t) (k ∷ listed up n left k) []) n
     (λ k l. ⊎-elim (λ s. rw s (ap (λ (r : List ℕ). k ∷ r) (fields-listed up n left (suc level) k))) (λ s. rw s) (which (eqb (up k) t)))
 
-all-append : (n : ℕ) (xs ys : List ℕ) → AllBelow n xs → AllBelow n ys → AllBelow n (xs ++ ys)
-all-append n [] ys a b = b
-all-append n (x ∷ xs) ys a b = (a .0, all-append n xs ys (a .1) b)
-
-all-joined : (n : ℕ) (g : ℕ → List ℕ) (m : ℕ) → ((k : ℕ) → k < m → AllBelow n (g k)) → AllBelow n (joined g m)
-unfolding joined
-all-joined n g zero h = tt
-all-joined n g (suc m) h = all-append n (joined g m) (g m) (all-joined n g m (λ k l. h k (omega arith))) (h m (omega arith))
-
-listed-below : (up : ℕ → ℕ) (n left t : ℕ) → AllBelow n (listed up n left t)
+listed-below : (up : ℕ → ℕ) (n left t : ℕ) → Every (λ x. x < n) (listed up n left t)
 unfolding listed
 listed-below up n zero t = tt
 listed-below up n (suc left) t =
-    all-joined n (λ k. pick (eqb (up k) t) (k ∷ listed up n left k) []) n
+    every-joined (λ x. x < n) (λ k. pick (eqb (up k) t) (k ∷ listed up n left k) []) n
     (λ k l. ⊎-elim (λ s. rw s (l, listed-below up n left k)) (λ s. rw s tt) (which (eqb (up k) t)))
 
-pub below-within : (up : ℕ → ℕ) (n left level t : ℕ) → AllBelow n (fieldsIn (below up n left level t))
+pub below-within : (up : ℕ → ℕ) (n left level t : ℕ) → Every (λ x. x < n) (fieldsIn (below up n left level t))
 below-within up n left level t = rw (fields-listed up n left level t) (listed-below up n left t)
 
 -- the fields below n hang on one another or on n, and each has a rank one above that of what it hangs on
@@ -173,7 +91,7 @@ pub record Ranked (up : ℕ → ℕ) (n : ℕ) (rank : ℕ → ℕ) : Type 0 whe
   pub most : (k : ℕ) → k < n → rank k ≤ n
 
 module _ {up : ℕ → ℕ} {n : ℕ} {rank : ℕ → ℕ} (its : Ranked up n rank) where
-  child-rank : (k t : ℕ) → k < n → eqb (up k) t ≡ true → rank k ≡ suc (rank t)
+  pub child-rank : (k t : ℕ) → k < n → eqb (up k) t ≡ true → rank k ≡ suc (rank t)
   child-rank k t l s = its .next k l ∙ ap (λ (x : ℕ). suc (rank x)) (eqb-true (up k) t s)
 
   other-rank : (k g : ℕ) → rank g < rank k → k ≡ g → ⊥
@@ -289,7 +207,7 @@ module _ {up : ℕ → ℕ} {n : ℕ} {rank : ℕ → ℕ} (its : Ranked up n ra
   once : (f : ℕ) → times f (listed up n n n) ≡ pick (ltb f n) 1 0
   once f =
       ⊎-elim (λ t. once-by f (children-rise (up f) (its .inside f (ltb-true f n t))))
-      (λ t. rw t (times-above n f (ltb-false f n t) (listed up n n n) (listed-below up n n n)))
+      (λ t. rw t (times-never f (listed up n n n) (every-map (λ x l e. omega (arith, ltb-false f n t)) (listed up n n n) (listed-below up n n n))))
       (which (ltb f n))
 
   pub below-once : (f : ℕ) → times f (fieldsIn (below up n n 0 n)) ≡ pick (ltb f n) 1 0

@@ -42,6 +42,20 @@ joined-skip g a (suc b) l none =
     (λ t. let same : suc b ≡ a = let m = ltb-false a (suc b) t in omega arith in ap (joined g) same)
     (which (ltb a (suc b)))
 
+-- what holds of nothing, and of two lists together, holds of what is joined
+pub joined-all : {A : Type 0} (such : List A → Type 0) → such [] → ((xs ys : List A) → such xs → such ys → such (xs ++ ys))
+    → (g : ℕ → List A) (m : ℕ) → ((k : ℕ) → k < m → such (g k)) → such (joined g m)
+unfolding joined
+joined-all such none two g zero h = none
+joined-all such none two g (suc m) h = two (joined g m) (g m) (joined-all such none two g m (λ k l. h k (omega arith))) (h m (omega arith))
+
+-- what is made of each list apart is made of what is joined
+pub joined-each : {A B : Type 0} (made : List A → List B) → made [] ≡ [] → ((xs ys : List A) → made (xs ++ ys) ≡ made xs ++ made ys)
+    → (g : ℕ → List A) (m : ℕ) → made (joined g m) ≡ joined (λ k. made (g k)) m
+unfolding joined
+joined-each made none two g zero = none
+joined-each made none two g (suc m) = two (joined g m) (g m) ∙ ap (λ r. r ++ made (g m)) (joined-each made none two g m)
+
 pub joined-same : {A : Type 0} (g h : ℕ → List A) (m : ℕ) → ((k : ℕ) → k < m → g k ≡ h k) → joined g m ≡ joined h m
 unfolding joined
 joined-same g h zero e = refl

@@ -18,7 +18,7 @@ use Rattle.chain_moves.specs.Moves.{moves}
 use Rattle.chain_moves.specs.Distances.{Rooted}
 use Rattle.chain_moves.proofs.MovesLaws.{moves-top, moves-up, moves-le, moves-settled}
 use Rattle.listing.specs.Order.{Entry, holder, order}
-use Rattle.listing.specs.Listed.{fieldsIn, times, AllBelow, numbersBelow, childrenIn}
+use Rattle.listing.specs.Listed.{fieldsIn, times, Every, numbersBelow, childrenIn}
 use Rattle.listing.proofs.ListedLaws.{Ranked, below-once, below-length, below-within, below-children}
 
 -- the number that is no field's, on which the top-level fields hang, has rank 0
@@ -90,14 +90,14 @@ module _ (parents : List ℕ) where
     children-listed = below-children ranked
 
   -- every entry is a field's
-  pub order-within : AllBelow (length parents) (fieldsIn (order parents))
+  pub order-within : Every (λ x. x < length parents) (fieldsIn (order parents))
   unfolding order
   order-within = below-within (holder parents) (length parents) (length parents) 0 (length parents)
 
   pub entry-within : (i : ℕ) (other : Entry) → i < length (order parents) → getD (order parents) i other .field < length parents
   entry-within i other = each (order parents) order-within i
     where
-      each : (l : List Entry) → AllBelow (length parents) (fieldsIn l) → (i : ℕ) → i < length l → getD l i other .field < length parents
+      each : (l : List Entry) → Every (λ x. x < length parents) (fieldsIn l) → (i : ℕ) → i < length l → getD l i other .field < length parents
       each [] w i h = absurd (omega arith)
       each (x ∷ l) w zero h = w .0
       each (x ∷ l) w (suc i) h = each l (w .1) i (omega arith)

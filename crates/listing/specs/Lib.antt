@@ -3,3 +3,5 @@ pub mod Entries
 pub mod Lines
 pub mod Answers
 pub mod Listed
+pub mod Statements
+pub mod Samples

@@ -1,5 +1,5 @@
 -- What is said of the fields that are listed.
-use Prim.Native.Nat.{ℕ, _+_, _<_}
+use Prim.Native.Nat.{ℕ, _+_}
 use mathlib.Core.List.{List, [], _∷_, _++_, map}
 use lib.Dec.{eqb}
 use Rattle.numbers.specs.Choice.{pick}
@@ -14,10 +14,10 @@ unfoldable pub times : ℕ → List ℕ → ℕ
 times f [] = 0
 times f (x ∷ rest) = pick (eqb x f) 1 0 + times f rest
 
--- each number of a list is below n
-abbrev pub AllBelow : ℕ → List ℕ → Type 0
-AllBelow n [] = Unit {0}
-AllBelow n (x ∷ rest) = (x < n) × AllBelow n rest
+-- each thing of a list is such
+abbrev pub Every : {A : Type 0} → (A → Type 0) → List A → Type 0
+Every such [] = Unit {0}
+Every such (x ∷ rest) = such x × Every such rest
 
 -- the numbers below n, rising
 abbrev pub numbersBelow : ℕ → List ℕ

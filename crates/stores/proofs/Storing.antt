@@ -3,10 +3,11 @@ use Prim.Native.Nat.{ℕ, zero, suc, _+_, _/_, _%_, _-_, _^_, _≤_, _<_}
 use mathlib.Core.List.{List, [], _∷_, _++_, append-assoc}
 use mathlib.Core.Path.{_≡_, refl, sym, ap, _∙_, subst}
 use native.Mathlib.Omega.{arith}
-use native.Mathlib.Nat.{add-zero}
+use native.Mathlib.Nat.{add-zero, zero-add}
 use native.Mathlib.Numerals.{add-one}
 use lib.ListN.{length, take, drop, set, length-append}
 use lib.Seq.{sets, length-sets, sets-eq, set-append-seam, length-take-le, paste, take-length}
+use Rattle.numbers.specs.Rows.{over}
 use Rattle.coding.specs.Strides.{puts}
 use Rattle.tree.specs.Bytes.{spelled}
 use Rattle.tree.specs.Shape.{recordBytes, listBytes}
@@ -40,6 +41,12 @@ unfolding puts spelled
 puts-sets zero x at d = refl
 puts-sets (suc k) x at d =
     puts-sets k (x / 256) (at + 1) (set d at (x % 256)) ∙ ap (λ (p : ℕ). sets (set d at (x % 256)) p (spelled k (x / 256))) (add-one at)
+
+-- bytes that are stored from the first place on stand in front
+pub stored-front : {old bytes new : List ℕ} {end : ℕ} → Stored old 0 bytes new end → length bytes ≤ length old → (new ≡ over bytes old) × (end ≡ length bytes)
+stored-front {old} {bytes} s fits =
+    let (is, stop) = s .done (omega arith) in
+    (is ∙ sets-eq bytes old 0 (omega arith) ∙ ap (λ (k : ℕ). bytes ++ drop k old) (zero-add (length bytes)), stop ∙ zero-add (length bytes))
 
 -- the two ends of a call that tests the room first: all is stored, or there was no room
 pub stored-all : {old : List ℕ} {at : ℕ} {bytes new : List ℕ} {n : ℕ} → new ≡ sets old at bytes → n ≡ length bytes → Stored old at bytes new (at + n)

@@ -1,0 +1,53 @@
+-- The decimal digits of a number tell it. Assumes nothing.
+use Prim.Native.Nat.{ℕ, zero, suc, _+_, _*_, _-_, _/_, _%_, _≤_, _<_}
+use mathlib.Core.Path.{_≡_, refl, sym, ap, _∙_}
+use mathlib.Core.Logic.{⊎-elim}
+use mathlib.Core.List.{List, [], _∷_, _++_}
+use native.Mathlib.Omega.{arith}
+use borrow.Author.Tests.{ltb-true, ltb-false}
+use lib.Dec.{ltb}
+use lib.ListN.{length, length-append}
+use Rattle.numbers.proofs.Choice.{which}
+use Rattle.decimals.specs.Decimal.{decimalBy, decimal}
+use Rattle.listing.specs.Listed.{Every}
+use Rattle.listing.proofs.TimesLaws.{every-append}
+
+-- the number that digits are, after those read before
+value : ℕ → List ℕ → ℕ
+value before [] = before
+value before (b ∷ l) = value (10 * before + (b - 48)) l
+
+value-append : (before : ℕ) (xs ys : List ℕ) → value before (xs ++ ys) ≡ value (value before xs) ys
+unfolding value
+value-append before [] ys = refl
+value-append before (x ∷ xs) ys = value-append (10 * before + (x - 48)) xs ys
+
+decimal-value : (steps n : ℕ) → value 0 (decimalBy steps n) ≡ n
+unfolding decimalBy value
+decimal-value zero n = omega arith
+decimal-value (suc steps) n =
+    ⊎-elim (λ t. rw t (omega arith))
+    (λ t. rw t (value-append 0 (decimalBy steps (n / 10)) ((48 + n % 10) ∷ []) ∙ (let r = decimal-value steps (n / 10) in omega arith)))
+    (which (ltb n 10))
+
+pub decimal-some : (steps n : ℕ) → 1 ≤ length (decimalBy steps n)
+unfolding decimalBy
+decimal-some zero n = omega arith
+decimal-some (suc steps) n =
+    ⊎-elim (λ t. rw t (omega arith)) (λ t. rw t (omega (arith, length-append (decimalBy steps (n / 10)) ((48 + n % 10) ∷ [])))) (which (ltb n 10))
+
+abbrev pub Digit : ℕ → Type 0
+Digit b = (48 ≤ b) × (b < 58)
+
+pub decimal-digits : (steps n : ℕ) → n ≤ steps → Every Digit (decimalBy steps n)
+unfolding decimalBy
+decimal-digits zero n l = ((omega arith, omega arith), tt)
+decimal-digits (suc steps) n l =
+    ⊎-elim (λ t. rw t ((omega arith, omega (arith, ltb-true n 10 t)), tt))
+    (λ t.
+    let m = ltb-false n 10 t in
+    rw t (every-append Digit (decimalBy steps (n / 10)) ((48 + n % 10) ∷ []) (decimal-digits steps (n / 10) (omega arith)) ((omega arith, omega arith), tt)))
+    (which (ltb n 10))
+
+pub decimal-same : (n m : ℕ) → decimal n ≡ decimal m → n ≡ m
+decimal-same n m e = sym (decimal-value n n) ∙ ap (value 0) e ∙ decimal-value m m
