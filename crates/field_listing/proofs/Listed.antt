@@ -22,7 +22,7 @@ use Rattle.header_reader.specs.Fits.{Scanned}
 use Rattle.header_reader.proofs.ReadLaws.{m, left as rows-left, is-found, fields-count, some-parents, few, mark-is}
 use Rattle.moves.proofs.Laws.{field-count, header-rooted}
 use Rattle.listing.specs.Order.{Entry, order, orderOf}
-use Rattle.listing.specs.Listed.{fieldsIn, AllBelow}
+use Rattle.listing.specs.Listed.{fieldsIn, Every}
 use Rattle.listing.specs.Lines.{entryLine, rowIn, darkIn, marked, listing}
 use Rattle.listing.specs.Answers.{fitted, placed, answer, left, outcomeOf, Answered}
 use Rattle.listing.specs.declared.ListAnswer.{ListAnswer}
@@ -36,7 +36,7 @@ module _ (e : List ℕ) {row row′ : ℕ → FieldRow} {d d′ : ℕ → Bool} 
   unfolding entryLine
   line-same x l = rw (rows (x .field) l, marks (x .field))
 
-  lines-same : (l : List Entry) → AllBelow n (fieldsIn l) → flat (entryLine e row d) l ≡ flat (entryLine e row′ d′) l
+  lines-same : (l : List Entry) → Every (λ (k : ℕ). k < n) (fieldsIn l) → flat (entryLine e row d) l ≡ flat (entryLine e row′ d′) l
   unfolding flat
   lines-same [] a = refl
   lines-same (x ∷ l) a = ap₂ (λ (p q : List ℕ). p ++ q) (line-same x (a .0)) (lines-same l (a .1))

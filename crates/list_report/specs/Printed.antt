@@ -1,9 +1,11 @@
 -- What the program prints for the bytes that it reads.
 use Prim.Native.Nat.{ℕ}
 use mathlib.Core.List.{List}
+use mathlib.Core.Path.{_≡_}
 use lib.ListN.{length}
 use lib.Dec.{leb}
 use Rattle.numbers.specs.Choice.{pick}
+use Rattle.numbers.specs.Rows.{over}
 use Rattle.wire.specs.Reading.{Step, found, refused}
 use Rattle.header.specs.Header.{Header}
 use Rattle.header.specs.Tables.{headerOf}
@@ -22,3 +24,8 @@ shownFor e (refused f) = refusedLine (f .number)
 -- all that is printed
 unfoldable pub printed : List ℕ → List ℕ
 printed input = pick (leb (length input) mostBytes) (shownFor input (headerOf input)) longerLine
+
+-- what a call leaves that prints these bytes: they stand in front, and the answer is how many they are
+pub record Prints (bytes old new : List ℕ) (r : ℕ) : Type 0 where
+  pub many : r ≡ length bytes
+  pub stands : new ≡ over bytes old

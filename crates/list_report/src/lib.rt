@@ -2,11 +2,9 @@
 use header::HeaderAnswer;
 use listing::ListAnswer;
 use report::Line;
-ghost use mathlib.Core.Path.{_≡_};
-ghost use lib.ListN.{length, take};
-ghost use Rattle.numbers.specs.Rows.{over};
+ghost use lib.ListN.{take};
 ghost use Rattle.io.specs.Counts.{Counts};
-ghost use Rattle.list_report.specs.Printed.{printed};
+ghost use Rattle.list_report.specs.Printed.{printed, Prints};
 
 // The most bytes of a listing, and of a header that is listed.
 pub const MOST_BYTES: usize = 65536;
@@ -14,9 +12,8 @@ pub const MOST_BYTES: usize = 65536;
 // Writes all that is printed for what was read over the first of the lent bytes, and answers how many bytes these are: the listing of a header,
 // or the line that tells why there is none.
 pub fn list_header(input: &[u8], out: &mut [u8; MOST_BYTES]) -> usize
-    ensures { λ r. ⌜ r ≡ length (printed (now (input .entry))) ⌝ }
-    ensures { λ _. ⌜ now (out .exit) ≡ over (printed (now (input .entry))) (now (out .entry)) ⌝ }
-    ensures { λ r. ⌜ Counts r (now (out .exit)) ⌝ }
+    ensures prints { λ r. ⌜ Prints (printed (now (input .entry))) (now (out .entry)) (now (out .exit)) r ⌝ }
+    ensures counts { λ r. ⌜ Counts r (now (out .exit)) ⌝ }
 {
     if MOST_BYTES < input.len() {
         return put_line(report::check_header(input), out);
@@ -32,8 +29,7 @@ pub fn list_header(input: &[u8], out: &mut [u8; MOST_BYTES]) -> usize
 // Writes a line over the first of the lent bytes.
 fn put_line(line: Line, out: &mut [u8; MOST_BYTES]) -> usize
     requires { ⌜ Counts (line .len) (line .bytes) ⌝ }
-    ensures { λ r. ⌜ r ≡ line .len ⌝ }
-    ensures { λ _. ⌜ now (out .exit) ≡ over (take (line .len) (line .bytes)) (now (out .entry)) ⌝ }
+    ensures { λ r. ⌜ Prints (take (line .len) (line .bytes)) (now (out .entry)) (now (out .exit)) r ⌝ }
 {
     let bytes = line.bytes;
     let len = line.len;

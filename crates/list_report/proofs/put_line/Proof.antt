@@ -1,25 +1,23 @@
+use mathlib.Core.Path.{_≡_}
+use lib.ListN.{length}
+use native.Mathlib.Omega.{arith}
+use Rattle.stores.proofs.Storing.{stored-front}
 use borrow.Author.Needs.{needs}
 use Rattle.list_report.proofs.put_line.Statement.{statement}
 use Rattle.list_report.proofs.put_line.Tie as tie
-use Rattle.list_report.proofs.put_line.Reads as reads
-use Rattle.list_report.proofs.put_line.Lts as lts
-use Rattle.stores.proofs.store_bytes.Reads as store-bytes-reads
 
--- src/lib.rt:40:25
 array-share-prefix-bytes : tie.Need-array-share-prefix-bytes
 array-share-prefix-bytes c = search needs
 
--- src/lib.rt:40:25
 slice-aggregate-store-bytes : tie.Need-slice-aggregate-store-bytes
 slice-aggregate-store-bytes c = search needs
 
--- src/lib.rt:40:5
 store-bytes-requires : tie.Need-store-bytes-requires
 store-bytes-requires c κs = search needs
 
--- src/lib.rt:33:1
 returns : tie.Need-returns
-returns c = ?
+returns c = let long : length (c .before .before .before .before .args .line .bytes) ≡ 128 = search needs in
+    let front = stored-front (c .store-bytes .ensures) (omega (arith, c .before .before .before .before .pre, c .before .before .before .before .good)) in record { many = front .1; stands = front .0 }
 
 pub put-line-spec : {M : Type 1} → statement M
 put-line-spec =
