@@ -1,7 +1,7 @@
 /*
- * Reading and writing of RNTuple headers, footers and page lists, and decoding
- * and encoding of pages. All memory is lent by the caller; nothing is kept
- * between calls.
+ * Reading and writing of RNTuple headers, footers and page lists, listing of a
+ * header's fields, and decoding and encoding of pages. All memory is lent by
+ * the caller; nothing is kept between calls.
  *
  * Every pointer is followed by its number of elements (bytes for uint8_t,
  * words for uint64_t). Where that number is 0 the pointer may be NULL, or any

@@ -2,6 +2,7 @@
 //! library and the independent reader and writers, and beside memcpy of what it
 //! writes.
 
+mod listers;
 mod writers;
 
 use differential::calls::{FooterTables, HeaderTables, PageListTable};
@@ -472,6 +473,100 @@ fn moves(random: &mut Random) {
     }
 }
 
+/// A header of so many fields with these parents, each with a name, a type and
+/// a column.
+fn header_of_fields(random: &mut Random, count: u32, parent: impl Fn(u32) -> u32) -> Vec<u8> {
+    let mut header = writer::Header::default();
+    header.fields.items = (0..count)
+        .map(|i| writer::Field {
+            parent: parent(i),
+            strings: [8, 16, 0, 0].map(|length| text(random, length)),
+            ..Default::default()
+        })
+        .collect();
+    header.columns.items = (0..count)
+        .map(|field| writer::Column {
+            column_type: 0x11,
+            bits: 32,
+            field,
+            ..Default::default()
+        })
+        .collect();
+    let mut writer = Writer::default();
+    writer.header(&header);
+    writer.bytes
+}
+
+/// The parents of 20 collections, each of a record of eight members, numbered as
+/// writers do: the collections, then their records, then the members.
+fn typical(field: u32) -> u32 {
+    match field {
+        0..20 => field,
+        20..40 => field - 20,
+        _ => 20 + (field - 40) / 8,
+    }
+}
+
+/// The library's listing beside what there is without it: to read the header, by
+/// the library or by the independent reader, and to make the lines.
+fn listings(random: &mut Random) {
+    let rooms = RefCell::new((
+        vec![0; 512 * FIELD_WORDS],
+        vec![0; 1_024 * COLUMN_WORDS],
+        vec![0; 256 * ALIAS_WORDS],
+        [0; 7],
+    ));
+    for (name, envelope) in [
+        ("list 512, one parent", header_of_fields(random, 512, |_| 0)),
+        (
+            "list 512, a chain",
+            header_of_fields(random, 512, |i| i.saturating_sub(1)),
+        ),
+        (
+            "the same from its end",
+            header_of_fields(random, 512, |i| (i + 1).min(511)),
+        ),
+        (
+            "list 511, binary tree",
+            header_of_fields(random, 511, |i| i.saturating_sub(1) / 2),
+        ),
+        ("list, typical header", header_of_fields(random, 200, typical)),
+        ("list, largest header", largest_header(random, text)),
+    ] {
+        let mut lines = vec![0; 1 << 20];
+        let (answer, [length]) = reference::list_fields(&envelope, &mut lines);
+        assert_eq!(answer, 0);
+        lines.truncate(length as usize);
+        let mut lent: Written = (vec![0; lines.len()], [0; 1]);
+        let times = contest(
+            &mut lent,
+            &|(out, result)| assert_eq!(calls::list_fields(black_box(&envelope), out, result), 0),
+            &[
+                ("Rust", &|(out, result)| {
+                    let length = listers::read_and_write(black_box(&envelope), out);
+                    *result = [length.expect("a listing") as u64];
+                }),
+                ("Rust draft", &|(out, result)| {
+                    let length = listers::read_and_draft(black_box(&envelope), out);
+                    *result = [length.expect("a listing") as u64];
+                }),
+                ("read, list", &|(out, result)| {
+                    let (fields, columns, aliases, read) = &mut *rooms.borrow_mut();
+                    assert_eq!(
+                        calls::read_header(black_box(&envelope), fields, columns, aliases, read),
+                        0
+                    );
+                    let fields = &fields[..read[4] as usize * FIELD_WORDS];
+                    *result = [listers::of_rows(&envelope, fields, out).expect("a listing") as u64];
+                }),
+            ],
+            lines.len(),
+        );
+        assert!(lent == (lines, [length]));
+        line(name, per_call(times.ours), &times, true);
+    }
+}
+
 /// A footer at its ceilings; from version 2 on it carries checksums.
 fn largest_footer(random: &mut Random, header: &[u8], version: u16) -> Vec<u8> {
     let mut footer = writer::Footer {
@@ -747,6 +842,8 @@ fn main() -> ExitCode {
     println!(
         "copy it (\"Rust draft\", the independent writer); all write the same bytes, those that are lent and no more."
     );
+    println!("For listings the others read the header likewise (\"read, list\": by the library), gather the children of each field and");
+    println!("write the lines into the lent bytes, or make them elsewhere and copy them (\"Rust draft\").");
     println!();
     println!("{:<26} {:>16} {:>10}", "", "", "fastest");
     println!(
@@ -762,5 +859,6 @@ fn main() -> ExitCode {
     page_lists(&mut random);
     moves(&mut random);
     written_envelopes(&mut random);
+    listings(&mut random);
     ExitCode::SUCCESS
 }

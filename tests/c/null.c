@@ -1,5 +1,5 @@
 /* Null pointers with count 0: every call takes them wherever nothing need be read or written; moves along chains; envelopes written
-   and read back; and the constants of the header. */
+   and read back; listings of fields; and the constants of the header. */
 #include "rntuple_check.h"
 #include <stdio.h>
 #include <string.h>
@@ -394,6 +394,111 @@ static void writers(void) {
     written_page_lists();
 }
 
+/* A listing of as many fields as there may be, as deep as they can be, and some bytes behind it. */
+static char due[300000];
+static size_t due_length;
+static uint8_t lines[sizeof due];
+
+static void due_line(uint32_t level, uint32_t field) {
+    due_length += (size_t)sprintf(due + due_length, "%*s%u  \n", (int)(2 * level), "", (unsigned)field);
+}
+
+/* The listings of fields without names that write_fields makes. */
+static void due_before(uint32_t count) {
+    for (uint32_t i = 0; i < count; i++) due_line(i, i);
+}
+static void due_after(uint32_t count) {
+    for (uint32_t i = 0; i < count; i++) due_line(i, count - 1 - i);
+}
+static void due_itself(uint32_t count) {
+    for (uint32_t i = 0; i < count; i++) due_line(0, i);
+}
+static void due_last(uint32_t count) {
+    due_line(0, count - 1);
+    for (uint32_t i = 0; i + 1 < count; i++) due_line(1, i);
+}
+static void due_nothing(uint32_t count) { (void)count; }
+
+/* What is due of a listing: the lines, or an answer, for rooms from none to more than enough and for results of any length. */
+static void listed(const char *name, const uint8_t *envelope, size_t length, uint32_t answer) {
+    uint64_t result[3];
+    const size_t rooms[] = {0, 1, due_length / 2, due_length ? due_length - 1 : 2, due_length, due_length + 1, sizeof lines};
+    for (size_t i = 0; i < sizeof rooms / sizeof *rooms; i++) {
+        size_t room = rooms[i];
+        uint32_t code = answer != 0 ? answer : room < due_length ? 256 + 20 : 0;
+        for (size_t words = 0; words <= 3; words++) {
+            result[0] = result[1] = result[2] = 9;
+            memset(lines, OUT_OLD, sizeof lines);
+            same(name, rnt_list_fields(envelope, length, room ? lines : NULL, room, result, words), words == 0 ? RNT_RESULT_TOO_SHORT : code);
+            size_t used = words > 0 && code == 0 ? due_length : 0;
+            same("bytes of the listing", result[0], words == 0 ? 9 : used);
+            same("words behind the listing's result", result[1] + result[2], 18);
+            same("the listing", memcmp(lines, due, used), 0);
+            size_t kept_bytes = 0;
+            for (size_t k = used; k < sizeof lines; k++) kept_bytes += lines[k] == OUT_OLD;
+            same("bytes that are not listed", kept_bytes, sizeof lines - used);
+        }
+    }
+}
+
+/* A chain of three: names with bytes that are not printed and two that are one character, a type that looks like a mark, and a column of
+   no listed type on the field in the middle. */
+static const uint8_t labels[] = "v\x1F\x7F\nvec _\xC3\xA4 dark~";
+static uint64_t label_fields[3 * RNT_FIELD_WORDS] = {
+    0, 0, 2, 0, 0, 0, 0, 4, 4, 3, 8, 3, 0, 1, 1, /* it has a type alias and a description, and is not dark, whatever its row says */
+    0, 0, 1, 0, 0, 0, 16, 1, 0, 0, 0, 0, 0, 0, 1,
+    0, 0, 1, 0, 0, 0, 8, 3, 11, 5, 0, 4, 0, 0, 0,
+};
+static uint64_t label_columns[RNT_COLUMN_WORDS] = {0x1D, 5, 2, 0};
+
+static void listings(void) {
+    uint64_t result[1] = {9};
+    same("listing without a header and a result", rnt_list_fields(NULL, 0, NULL, 0, NULL, 0), RNT_RESULT_TOO_SHORT);
+    same("listing without a result", rnt_list_fields(header, sizeof header, NULL, 0, NULL, 0), RNT_RESULT_TOO_SHORT);
+    same("listing no fields into no room", rnt_list_fields(header, sizeof header, NULL, 0, result, 1), 0);
+    same("listing no fields into no room, its bytes", result[0], 0);
+    due_length = 0;
+    listed("listing of no header", NULL, 0, 256 + 2);
+    listed("listing of no fields", header, sizeof header, 0);
+
+    const struct {
+        const char *name;
+        uint32_t count;
+        uint32_t (*parent)(uint32_t field, uint32_t count);
+        uint32_t answer;
+        void (*due)(uint32_t count);
+    } cases[] = {
+        {"listing of one field", 1, before, 0, due_before},
+        {"listing of two fields", 2, before, 0, due_before},
+        {"listing of two fields, the second on top", 2, after, 0, due_after},
+        {"listing of a chain of twelve", 12, after, 0, due_after},
+        {"listing of a chain", RNT_MOST_FIELDS, before, 0, due_before},
+        {"listing of a chain, the last on top", RNT_MOST_FIELDS, after, 0, due_after},
+        {"listing of tops", RNT_MOST_FIELDS, itself, 0, due_itself},
+        {"listing of children of the last", RNT_MOST_FIELDS, last, 0, due_last},
+        {"listing of a circle", 2, around, 256 + 15, due_nothing},
+        {"listing of the longest circle", RNT_MOST_FIELDS, around, 256 + 15, due_nothing},
+        {"listing of a field below none", 1, beyond, 256 + 14, due_nothing},
+        {"listing of too many fields", RNT_MOST_FIELDS + 1, before, 256 + 10, due_nothing},
+    };
+    for (size_t i = 0; i < sizeof cases / sizeof *cases; i++) {
+        size_t length = write_fields(cases[i].count, cases[i].parent);
+        due_length = 0;
+        cases[i].due(cases[i].count);
+        listed(cases[i].name, chain, length, cases[i].answer);
+        if (cases[i].due == due_before && cases[i].count == RNT_MOST_FIELDS) same("bytes of the deepest listing", due_length, 264594);
+        chain[length - 5] ^= 1;
+        due_length = 0;
+        listed("listing, another checksum", chain, length, 256 + 3);
+    }
+
+    clear_out();
+    same("writing a header to list", rnt_write_header(labels, sizeof labels - 1, 0, 0, 0, 0, label_fields, sizeof label_fields / 8, label_columns, sizeof label_columns / 8,
+                                                      NULL, 0, out, sizeof out, result, 1), 0);
+    due_length = (size_t)sprintf(due, "1 ~  dark\n  2 _\xC3\xA4  dark dark\n    0 v??? vec\n");
+    listed("listing of names", out, (size_t)result[0], 0);
+}
+
 static void constants(void) {
     same("words of a cluster row", RNT_CLUSTER_WORDS, 5);
     same("no checksum", RNT_NO_CHECKSUM, (uint64_t)UINT32_MAX + 1);
@@ -425,6 +530,7 @@ int main(void) {
     page_lists();
     paired_page_lists();
     writers();
+    listings();
     pages();
     constants();
     printf("%d passed, %d failed\n", passed, failed);

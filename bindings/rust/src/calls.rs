@@ -18,6 +18,14 @@ mod c {
             result_words: usize,
         ) -> u32;
         pub fn rnt_parent_moves(header: *const u8, header_length: usize, result: *mut u64, result_words: usize) -> u32;
+        pub fn rnt_list_fields(
+            header: *const u8,
+            header_length: usize,
+            out: *mut u8,
+            out_length: usize,
+            result: *mut u64,
+            result_words: usize,
+        ) -> u32;
         pub fn rnt_read_footer(
             header: *const u8,
             header_length: usize,
@@ -230,6 +238,48 @@ pub fn parent_moves(envelope: &[u8]) -> Result<u64, Refusal> {
     // SAFETY: see above.
     accepted(unsafe { c::rnt_parent_moves(envelope.as_ptr(), envelope.len(), result.as_mut_ptr(), result.len()) })?;
     Ok(result[0])
+}
+
+/// Lists the fields of a header as a tree, in lines that people can read, into
+/// the first bytes of `out`, and gives how many bytes those are. A field's line
+/// comes first, then the listings of its children, smaller numbers first;
+/// top-level fields stand in the order of their numbers. A line has two spaces
+/// for each level, the field's number, a space, its name, a space, its type name,
+/// ` dark` where the field is dark, and a line end. Bytes below 32 and byte 127
+/// of the names are written as `?`, so that the listing is UTF-8 without other
+/// control bytes than its line ends. [`new_listing`](crate::new_listing) makes
+/// the room too.
+///
+/// Refusals are those of [`read_header`] with room for its rows; last, `out` is
+/// too small. A refusal changes nothing, and the bytes behind the listing stay.
+///
+/// ```
+/// use rntuple_check::{list_fields, Reason};
+///
+/// let header = include_bytes!("../../../examples/tree.header");
+/// let mut out = [0; 300];
+/// let length = list_fields(header, &mut out)?;
+/// let listing = std::str::from_utf8(&out[..length]).unwrap();
+/// assert_eq!(listing.lines().next(), Some("0 run std::uint32_t"));
+///
+/// let refusal = list_fields(header, &mut out[..length - 1]).unwrap_err();
+/// assert_eq!(refusal.reason, Reason::RoomTooSmall);
+/// # Ok::<(), rntuple_check::Refusal>(())
+/// ```
+pub fn list_fields(envelope: &[u8], out: &mut [u8]) -> Result<usize, Refusal> {
+    let mut result = [0; 1];
+    // SAFETY: see above.
+    accepted(unsafe {
+        c::rnt_list_fields(
+            envelope.as_ptr(),
+            envelope.len(),
+            out.as_mut_ptr(),
+            out.len(),
+            result.as_mut_ptr(),
+            result.len(),
+        )
+    })?;
+    Ok(result[0] as usize)
 }
 
 /// An accepted footer: the rows that were read.

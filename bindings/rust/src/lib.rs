@@ -3,8 +3,8 @@
 //!
 //! The functions of this crate take the memory that is written as slices, as
 //! the library does. [`HeaderRoom`], [`FooterRoom`], [`PageListRoom`],
-//! [`decode`], [`encode`], [`new_header`], [`new_footer`] and [`new_page_list`]
-//! make that memory, of a size that is never too small.
+//! [`decode`], [`encode`], [`new_listing`], [`new_header`], [`new_footer`] and
+//! [`new_page_list`] make that memory, of a size that is never too small.
 //!
 //! ```
 //! use rntuple_check::{HeaderRoom, Reason};
@@ -73,11 +73,13 @@ mod room;
 mod rows;
 
 pub use calls::{
-    crc32, decode_page, encode_page, is_utf8, parent_moves, read_footer, read_header, read_page_list,
+    crc32, decode_page, encode_page, is_utf8, list_fields, parent_moves, read_footer, read_header, read_page_list,
     read_paired_page_list, write_footer, write_header, write_page_list, Footer, Header, HeaderTexts, PageList, Text,
 };
 pub use refusal::{Envelope, Reason, Refusal};
-pub use room::{decode, encode, new_footer, new_header, new_page_list, FooterRoom, HeaderRoom, PageListRoom};
+pub use room::{
+    decode, encode, new_footer, new_header, new_listing, new_page_list, FooterRoom, HeaderRoom, PageListRoom,
+};
 pub use rows::{Alias, Cluster, Column, ColumnNumber, Field, FieldNumber, Link, Page, Row, Table};
 
 /// The most bytes and rows that an accepted envelope can have, and the most

@@ -1,8 +1,8 @@
 //! Memory of full size: with it nothing is refused for want of room.
 
 use crate::calls::{
-    decode_page, encode_page, read_footer, read_header, read_page_list, read_paired_page_list, write_footer,
-    write_header, write_page_list, Footer, Header, HeaderTexts, PageList,
+    decode_page, encode_page, list_fields, parent_moves, read_footer, read_header, read_page_list,
+    read_paired_page_list, write_footer, write_header, write_page_list, Footer, Header, HeaderTexts, PageList,
 };
 use crate::most;
 use crate::refusal::Refusal;
@@ -104,6 +104,38 @@ pub fn encode(column_type: u16, checksum: bool, elements: &[u64]) -> Result<Vec<
     let written = encode_page(column_type, elements.len(), checksum, elements, 0, &mut page)?.len();
     page.truncate(written);
     Ok(page)
+}
+
+/// The fields of a header as a tree, in lines that people can read. See
+/// [`list_fields`].
+///
+/// ```
+/// use rntuple_check::new_listing;
+///
+/// let header = include_bytes!("../../../examples/tree.header");
+/// assert_eq!(
+///     new_listing(header)?,
+///     "\
+/// 0 run std::uint32_t
+/// 1 tracks std::vector<Track>
+///   4 _0 Track
+///     7 pt float
+///     8 φ double
+/// 2 adc std::variant<std::int32_t,std::bfloat16_t> dark
+///   5 _0 std::int32_t
+///   6 _1 std::bfloat16_t dark
+/// 3 run_number std::uint32_t
+/// "
+/// );
+/// # Ok::<(), rntuple_check::Refusal>(())
+/// ```
+pub fn new_listing(envelope: &[u8]) -> Result<String, Refusal> {
+    // No line has more bytes than the field's record, but for two spaces for
+    // each move to its top.
+    let mut out = vec![0; envelope.len() + 2 * parent_moves(envelope)? as usize];
+    let length = list_fields(envelope, &mut out)?;
+    out.truncate(length);
+    Ok(String::from_utf8(out).expect("the strings of an accepted header are well-formed, and so are their lines"))
 }
 
 /// What is written into memory that is enough for an envelope of up to so many

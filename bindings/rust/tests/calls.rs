@@ -1,10 +1,10 @@
-//! The calls from Rust: accepted, refused, too little room, envelopes and pages both ways, and nothing lent.
+//! The calls from Rust: accepted, refused, too little room, envelopes and pages both ways, listings, and nothing lent.
 
 use rntuple_check::{
-    crc32, decode, decode_page, encode, encode_page, is_utf8, most, new_footer, new_header, new_page_list,
-    parent_moves, read_footer, read_header, read_page_list, read_paired_page_list, write_footer, write_header,
-    write_page_list, Alias, Cluster, Column, ColumnNumber, Envelope, Field, FieldNumber, FooterRoom, HeaderRoom,
-    HeaderTexts, Link, Page, PageListRoom, Reason, Refusal, Text,
+    crc32, decode, decode_page, encode, encode_page, is_utf8, list_fields, most, new_footer, new_header, new_listing,
+    new_page_list, parent_moves, read_footer, read_header, read_page_list, read_paired_page_list, write_footer,
+    write_header, write_page_list, Alias, Cluster, Column, ColumnNumber, Envelope, Field, FieldNumber, FooterRoom,
+    HeaderRoom, HeaderTexts, Link, Page, PageListRoom, Reason, Refusal, Text,
 };
 
 const FIELDS: &[u8] = include_bytes!("../../../examples/fields.header");
@@ -14,6 +14,7 @@ const PAIRED_FOOTER: &[u8] = include_bytes!("../../../examples/paired.footer");
 const STALE_PAGE_LIST: &[u8] = include_bytes!("../../../examples/stale.pagelist");
 const NEWER: &[u8] = include_bytes!("../../../examples/newer.header");
 const DAMAGED: &[u8] = include_bytes!("../../../examples/damaged.header");
+const TREE: &[u8] = include_bytes!("../../../examples/tree.header");
 const ALPHABETS: &[u8] = include_bytes!("../../../examples/alphabets.header");
 const SURROGATE: &[u8] = include_bytes!("../../../examples/surrogate.header");
 const SMALLEST: &[u8] = include_bytes!("../../../examples/smallest.header");
@@ -204,6 +205,170 @@ fn moves_of_a_refused_header() {
     assert_eq!(parent_moves(&header_of(&[1])), refused(Reason::NoSuchNumber));
     let too_many = vec![0; most::FIELDS + 1];
     assert_eq!(parent_moves(&header_of(&too_many)), refused(Reason::CountAboveCeiling));
+}
+
+/// The listing in a room that is exactly right, after one that is a byte too
+/// small, and among bytes that stay.
+fn listed(envelope: &[u8]) -> Result<String, Refusal> {
+    let listing = new_listing(envelope)?;
+    let length = listing.len();
+    if let Some(less) = length.checked_sub(1) {
+        let mut out = vec![9; less];
+        let too_small = refused(Envelope::Header, Reason::RoomTooSmall);
+        assert_eq!(list_fields(envelope, &mut out), Err(too_small));
+        assert!(out.iter().all(|&byte| byte == 9));
+    }
+    for more in [0, 1, 1_000] {
+        let mut out = vec![9; length + more];
+        assert_eq!(list_fields(envelope, &mut out), Ok(length));
+        assert_eq!(out[..length], *listing.as_bytes());
+        assert!(out[length..].iter().all(|&byte| byte == 9));
+    }
+    Ok(listing)
+}
+
+#[test]
+fn fields_are_listed() {
+    assert_eq!(listed(SMALLEST), Ok(String::new()));
+    let fields = "0 energy float\n1 hits std::vector<std::int32_t>\n  2 _0 std::int32_t\n\
+                  3 position std::array<double,3>\n4 e float\n";
+    assert_eq!(
+        (listed(FIELDS).as_deref(), listed(NEWER).as_deref()),
+        (Ok(fields), Ok(fields))
+    );
+    let alphabets = "0 энергия float\n1 θ double\n2 検出器 std::int32_t\n";
+    assert_eq!(listed(ALPHABETS).as_deref(), Ok(alphabets));
+    for (parents, listing) in [
+        (&[0][..], "0  \n"),
+        (&[1, 1], "1  \n  0  \n"),
+        (&[0, 1, 0, 1], "0  \n  2  \n1  \n  3  \n"),
+        (&[2, 0, 2], "2  \n  0  \n    1  \n"),
+    ] {
+        assert_eq!(listed(&header_of(parents)).as_deref(), Ok(listing), "{parents:?}");
+    }
+    // A chain of all fields, numbered from its top on or towards it.
+    let last = most::FIELDS as u32 - 1;
+    let line = |level: u32, number: u32| format!("{}{number}  \n", "  ".repeat(level as usize));
+    let rising: Vec<u32> = (0..=last).map(|i| i.saturating_sub(1)).collect();
+    let falling: Vec<u32> = (0..=last).map(|i| (i + 1).min(last)).collect();
+    let (down, up) = ((0..=last).map(|i| line(i, i)), (0..=last).map(|i| line(i, last - i)));
+    assert_eq!(listed(&header_of(&rising)), Ok(down.collect()));
+    assert_eq!(listed(&header_of(&falling)), Ok(up.collect()));
+}
+
+/// The lines by the rows: those of a field's children stand right behind its own.
+#[test]
+fn listings_are_those_of_the_rows() {
+    fn lines(fields: &[Field], at: usize, level: usize, listing: &mut String) {
+        let Field {
+            name, type_name, dark, ..
+        } = fields[at];
+        let mark = if dark { " dark" } else { "" };
+        let line = format!("{at} {name} {type_name}{mark}").replace(|byte: char| byte.is_ascii_control(), "?");
+        *listing += &format!("{}{line}\n", "  ".repeat(level));
+        for child in (0..fields.len()).filter(|&child| child != at && fields[child].parent.0 == at) {
+            lines(fields, child, level + 1, listing);
+        }
+    }
+    let names = [
+        "_0",
+        "",
+        "a b",
+        "x\n  1 y",
+        "\u{1F}\u{7F}~",
+        "Größe",
+        "検出器\t",
+        "\u{1F6F0}\0",
+    ];
+    let mut number = 1u32;
+    for count in 1..120usize {
+        let mut any = |bound: usize| {
+            number = number.wrapping_mul(1_664_525).wrapping_add(1_013_904_223);
+            (number >> 8) as usize % bound
+        };
+        let fields: Vec<_> = (0..count)
+            .map(|i| Field {
+                // No parent comes before its child, or none after it.
+                parent: FieldNumber(if count % 2 == 0 { i + any(count - i) } else { any(i + 1) }),
+                type_name: names[any(names.len())],
+                type_alias: "another",
+                ..top(i, names[any(names.len())])
+            })
+            .collect();
+        let unknown = Column {
+            column_type: 29,
+            bits: 7,
+            field: FieldNumber(any(count)),
+            flags: 0,
+        };
+        let envelope = new_header("", "", &fields, &[unknown], &[]).unwrap();
+        let mut room = HeaderRoom::full();
+        let rows: Vec<_> = room.read(&envelope).unwrap().fields.iter().collect();
+        let mut listing = String::new();
+        for top in (0..count).filter(|&i| rows[i].parent.0 == i) {
+            lines(&rows, top, 0, &mut listing);
+        }
+        assert_eq!(listed(&envelope), Ok(listing));
+    }
+}
+
+#[test]
+fn the_longest_listings_have_room() {
+    // A chain of all fields whose names are all that an envelope can have.
+    let count = most::FIELDS;
+    let length = (most::BYTES - 48 - 16 - 36 * count) / count;
+    let name = "n".repeat(length);
+    let fields: Vec<_> = (0..count)
+        .map(|i| Field {
+            parent: FieldNumber(i.saturating_sub(1)),
+            type_name: "",
+            ..top(i, &name)
+        })
+        .collect();
+    let unknown = Column {
+        column_type: 0,
+        bits: 0,
+        field: FieldNumber(count - 1),
+        flags: 0,
+    };
+    let envelope = new_header("", "", &fields, &[unknown], &[]).unwrap();
+    let digits = 10 + 90 * 2 + 412 * 3;
+    let lines = count * (" ".len() + length + " ".len() + " dark\n".len()) + digits;
+    assert_eq!(listed(&envelope).unwrap().len(), lines + 2 * 130_816);
+    // One field, whose name is all that an envelope can have.
+    let name = "n".repeat(most::BYTES - 48 - 36);
+    let field = Field {
+        type_name: "",
+        ..top(0, &name)
+    };
+    let envelope = new_header("", "", &[field], &[], &[]).unwrap();
+    assert_eq!(
+        (envelope.len(), listed(&envelope)),
+        (most::BYTES, Ok(format!("0 {name} \n")))
+    );
+}
+
+#[test]
+fn the_listing_of_a_refused_header() {
+    let mut out = [9; 100];
+    for (envelope, reason) in [
+        (&[][..], Reason::EnvelopeTooShort),
+        (&vec![0; most::BYTES + 1], Reason::EnvelopeTooLong),
+        (DAMAGED, Reason::ChecksumDiffers),
+        (SURROGATE, Reason::StringWrong),
+        (&header_of(&[1, 0]), Reason::EndlessChain),
+        (&header_of(&[1]), Reason::NoSuchNumber),
+        (&header_of(&vec![0; most::FIELDS + 1]), Reason::CountAboveCeiling),
+    ] {
+        let refusal = refused(Envelope::Header, reason);
+        assert_eq!(new_listing(envelope), Err(refusal));
+        assert_eq!(list_fields(envelope, &mut out), Err(refusal));
+        assert_eq!(list_fields(envelope, &mut []), Err(refusal));
+    }
+    assert_eq!(out, [9; 100]);
+    let too_small = refused(Envelope::Header, Reason::RoomTooSmall);
+    assert_eq!(list_fields(TREE, &mut []), Err(too_small));
+    assert_eq!(list_fields(SMALLEST, &mut []), Ok(0));
 }
 
 #[test]
