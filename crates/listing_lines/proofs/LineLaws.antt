@@ -1,17 +1,17 @@
 -- The pieces of a line, and the lines of a table.
-use Prim.Native.Nat.{ℕ, zero, suc, _+_, _*_}
+use Prim.Native.Nat.{ℕ, zero, suc, _+_, _*_, _<_}
 use mathlib.Core.Path.{_≡_, refl, sym, ap, _∙_}
 use mathlib.Core.Bool.{Bool}
 use mathlib.Core.List.{List, [], _∷_, _++_, map-append, append-assoc, append-nil}
 use native.Mathlib.Numerals.{add-one}
 use native.Mathlib.Omega.{arith}
-use lib.ListN.{length, replicate, length-append, length-map, length-replicate, replicate-append-replicate}
+use lib.ListN.{length, getD, replicate, length-append, length-map, length-replicate, replicate-append-replicate}
 use Rattle.numbers.specs.Rows.{flat}
 use Rattle.decimals.specs.Decimal.{text, decimal}
 use Rattle.rows.specs.Tables.{fieldRow, firstRows}
 use Rattle.rows.proofs.TableLaws.{flat-join}
 use Rattle.listing.specs.Entries.{entryRow}
-use Rattle.listing.specs.Lines.{shown, darkWord, line, characters, entryLine, marked}
+use Rattle.listing.specs.Lines.{shownByte, shown, darkWord, line, characters, entryLine, marked}
 use Rattle.listing_lines.specs.Line.{lineOf, lineBytes}
 use Rattle.listing_lines.specs.declared.line.Line.{Line}
 
@@ -19,6 +19,12 @@ use Rattle.listing_lines.specs.declared.line.Line.{Line}
 shown-spaces : (k : ℕ) → shown (replicate k 32) ≡ replicate k 32
 shown-spaces zero = refl
 shown-spaces (suc k) = ap (λ (r : List ℕ). 32 ∷ r) (shown-spaces k)
+
+-- a byte of what is shown
+pub shown-at : (bytes : List ℕ) (i : ℕ) → i < length bytes → getD (shown bytes) i 0 ≡ shownByte (getD bytes i 0)
+shown-at [] i l = absurd (omega arith)
+shown-at (x ∷ bytes) zero l = refl
+shown-at (x ∷ bytes) (suc i) l = shown-at bytes i (omega arith)
 
 -- a line is its pieces, in the order in which they are stored
 pub line-pieces : (level field : ℕ) (name type : List ℕ) (d : Bool)
@@ -34,11 +40,11 @@ pub line-length : (e : List ℕ) (l : Line)
 unfolding line lineBytes
 line-length e l = simp (length-append, length-map, length-replicate) (omega arith)
 
--- two spaces more
-pub spaces-next : (i : ℕ) → replicate (2 * i) 32 ++ (32 ∷ 32 ∷ []) ≡ replicate {A = ℕ} (2 * (i + 1)) 32
-spaces-next i =
-    let twice : 2 * i + 2 ≡ 2 * (i + 1) = omega arith in
-    replicate-append-replicate (2 * i) 2 32 ∙ ap (λ (k : ℕ). replicate {A = ℕ} k 32) twice
+-- as many spaces twice
+pub spaces-twice : (k : ℕ) → replicate k 32 ++ replicate k 32 ≡ replicate {A = ℕ} (2 * k) 32
+spaces-twice k =
+    let twice : k + k ≡ 2 * k = omega arith in
+    replicate-append-replicate k k 32 ∙ ap (λ (n : ℕ). replicate {A = ℕ} n 32) twice
 
 -- the lines of the first rows of a table
 module _ (e rows marks entries : List ℕ) where

@@ -40,17 +40,27 @@ fn store_shown(bytes: &[u8], at: usize, out: &mut [u8]) -> usize
     at
 }
 
+// So many spaces. The compiler makes one fill of the loop.
+fn store_spaces(count: usize, at: usize, out: &mut [u8]) -> usize
+    ensures { λ r. ⌜ Stored (now (out .entry)) at (replicate count 32) (now (out .exit)) r ⌝ }
+{
+    if numbers::has_room(out, at, count) {
+        let mut i = 0;
+        while i < count {
+            out[at + i] = 32;
+            i += 1;
+        }
+        return at + i;
+    }
+    at
+}
+
 // Two spaces per level. The level is not doubled: it may be any number.
 fn store_indent(level: u64, at: usize, out: &mut [u8]) -> usize
     ensures { λ r. ⌜ Stored (now (out .entry)) at (replicate (2 * level) 32) (now (out .exit)) r ⌝ }
 {
-    let mut next = at;
-    let mut i = 0;
-    while i < level {
-        next = stores::store_bytes(b"  ", next, out);
-        i += 1;
-    }
-    next
+    let half = store_spaces(level as usize, at, out);
+    store_spaces(level as usize, half, out)
 }
 
 // The dark word where it applies, and the line's end.

@@ -1,4 +1,5 @@
 pub mod Storing
+pub mod Copying
 pub mod Sealing
 pub mod Laid
 pub mod Answers

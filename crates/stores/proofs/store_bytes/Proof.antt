@@ -1,18 +1,17 @@
 -- `stores::store_bytes` meets its contract. The invariant: so many bytes are copied. Assumes nothing.
-use Prim.Native.Nat.{_+_, _-_, _≤_, zero-le}
-use mathlib.Core.Path.{_≡_, refl, sym, _∙_}
-use native.Mathlib.Numerals.{add-one}
+use Prim.Native.Nat.{_-_}
+use mathlib.Core.Path.{refl, sym, _∙_}
 use native.Mathlib.Omega.{arith}
-use lib.ListN.{length, length-set}
-use lib.Seq.{paste, paste-zero, paste-suc}
+use lib.ListN.{length}
 use borrow.Author.Tests.{leb-false}
 use borrow.Author.Needs.{needs}
-use Rattle.stores.proofs.Storing.{pasted, stored-all, stored-nothing}
+use Rattle.stores.proofs.Storing.{stored-nothing}
+use Rattle.stores.proofs.Copying.{Copying, copy-none, copy-more, copy-all}
 use Rattle.stores.proofs.store_bytes.Statement.{statement}
 use Rattle.stores.proofs.store_bytes.Tie as tie
 
 abbrev Inv-loop : tie.InvT-loop
-Inv-loop bytes at out₀ i₀ out i = (i ≤ length bytes) × (out ≡ paste out₀ at bytes i) × (length out ≡ length out₀) × (at + length bytes ≤ length out₀)
+Inv-loop bytes at out₀ i₀ out i = Copying out₀ at bytes i out
 
 abbrev μ-loop : tie.MeasureT-loop
 μ-loop bytes at out₀ i₀ out i = length bytes - i
@@ -21,34 +20,34 @@ has-room-requires : tie.Need-has-room-requires Inv-loop μ-loop
 has-room-requires c κs = search needs
 
 loop-holds : tie.Need-loop-holds Inv-loop μ-loop
-loop-holds c = let a = c .before .before .before .before .before .args in (zero-le, paste-zero (a .out .now) (a .at) (a .bytes .now), refl, c .before .has-room .ensures .fits (c .if1 .taken))
+loop-holds c = copy-none _ _ _ (c .before .has-room .ensures .fits (c .if1 .taken))
 
 shared-slice-read-out : tie.Need-shared-slice-read-out Inv-loop μ-loop
-shared-slice-read-out c = omega arith
+shared-slice-read-out c = omega (arith, c .before .before .loop .inv .room)
 
 add-out : tie.Need-add-out Inv-loop μ-loop
-add-out c = omega arith
+add-out c = omega (arith, c .before .before .loop .inv .room)
 
 slice-write-out : tie.Need-slice-write-out Inv-loop μ-loop
-slice-write-out c = omega arith
+slice-write-out c = omega (arith, c .before .before .loop .inv .room)
 
 add-i : tie.Need-add-i Inv-loop μ-loop
-add-i c = omega arith
+add-i c = omega (arith, c .before .before .loop .inv .room)
 
 loop-less : tie.Need-loop-less Inv-loop μ-loop
 loop-less c = omega arith
 
 loop-again : tie.Need-loop-again Inv-loop μ-loop
-loop-again c = (omega arith, rw (c .before .before .loop .inv .1, add-one) (paste-suc _ (c .before .before .before .before .before .before .before .before .args .at) _ (c .before .before .loop .i) 0 (omega arith) (c .before .loop-test .taken)), simp length-set (c .before .before .loop .inv .2), c .before .before .loop .inv .3)
+loop-again c = copy-more _ (c .before .before .loop .inv) (c .before .loop-test .taken) refl
 
 add-result : tie.Need-add-result Inv-loop μ-loop
-add-result c = omega arith
+add-result c = omega (arith, c .before .loop .inv .room)
 
 same-length : tie.Need-same-length Inv-loop μ-loop
-same-length c = c .before .loop .inv .2
+same-length c = c .before .loop .inv .long
 
 returns : tie.Need-returns Inv-loop μ-loop
-returns c = let e : c .before .loop .i ≡ length (c .before .before .before .before .before .before .before .args .bytes .now) = omega arith in stored-all (c .before .loop .inv .1 ∙ pasted _ _ _ _ e (c .before .loop .inv .3)) e
+returns c = copy-all (c .before .loop .inv) (omega arith)
 
 same-length-2 : tie.Need-same-length-2 Inv-loop μ-loop
 same-length-2 c = search needs
