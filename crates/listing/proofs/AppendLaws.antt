@@ -61,8 +61,8 @@ below-settled {up} {n} its (suc left) (suc more) level t l h =
     (which (eqb (up k) t)))
 
 -- a top-level field
-abbrev atTop : ℕ → Entry
-atTop k = record { field = k; level = 0 }
+abbrev pub at-top : ℕ → Entry
+at-top k = record { field = k; level = 0 }
 
 module _ (old new : List ℕ) (rooted : Rooted old) (tops : (f : ℕ) → length old ≤ f → f < length (old ++ new) → getD (old ++ new) f 0 ≡ f) where
   abbrev all : List ℕ
@@ -125,11 +125,11 @@ module _ (old new : List ℕ) (rooted : Rooted old) (tops : (f : ℕ) → length
 
   -- the top-level fields, with what is below each
   below-all : (left : ℕ) → left ≡ length all
-      → below (holder all) (length all) left 0 (length all) ≡ below (holder old) (length old) left 0 (length old) ++ joined (λ j. atTop (length old + j) ∷ []) (length new)
+      → below (holder all) (length all) left 0 (length all) ≡ below (holder old) (length old) left 0 (length old) ++ joined (λ j. at-top (length old + j) ∷ []) (length new)
   unfolding below joined
   below-all zero e =
       let z : length new ≡ 0 = let m = length-append old new in omega arith in
-      ap (joined (λ j. atTop (length old + j) ∷ [])) (sym z)
+      ap (joined (λ j. at-top (length old + j) ∷ [])) (sym z)
   below-all (suc left) e =
       let row = branch (holder all) (length all) left 0 (length all) in
       let long = length-append old new in
@@ -138,15 +138,15 @@ module _ (old new : List ℕ) (rooted : Rooted old) (tops : (f : ℕ) → length
       ∙ ap₂ _++_
       (joined-same row (branch (holder old) (length old) left 0 (length old)) (length old)
       (λ k l. rw (hangs-free k l) (ap (λ (r : List Entry). hanging (holder old) 0 (length old) r k) (below-old left 1 k l))))
-      (joined-same (λ j. row (length old + j)) (λ j. atTop (length old + j) ∷ []) (length new)
+      (joined-same (λ j. row (length old + j)) (λ j. at-top (length old + j) ∷ []) (length new)
       (λ j l.
       let k = length old + j in
       rw (eq-eqb (holder all k) (length all) (new-free k (omega arith) (omega arith)), below-new left 1 k (omega arith) (omega arith))))
 
-  pub order-appended : order (old ++ new) ≡ order old ++ joined (λ j. atTop (length old + j) ∷ []) (length new)
+  pub order-appended : order (old ++ new) ≡ order old ++ joined (λ j. at-top (length old + j) ∷ []) (length new)
   unfolding order
   order-appended =
       let z = ranked old rooted .root in
       below-all (length all) refl
-      ∙ ap (λ (r : List Entry). r ++ joined (λ j. atTop (length old + j) ∷ []) (length new))
+      ∙ ap (λ (r : List Entry). r ++ joined (λ j. at-top (length old + j) ∷ []) (length new))
       (below-settled (ranked old rooted) (length old) (length all) 0 (length old) longer (omega arith))
