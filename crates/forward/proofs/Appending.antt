@@ -294,7 +294,7 @@ module _ (t : HeaderTree) (right : RightHeader t) (fields : List (Framed FieldCo
 
   lines : listed (with-rows content ns ks .tables) ≡ listed (content .tables) ++ appendedLines (length (t .inside .fields .inside)) fields columns
   lines =
-      lines-appended fs fields (dark (parentsIn fs) cs) (dark (parentsIn (fs ++ ns)) (cs ++ ks)) (darkened columns) (record { fields = closed; ends = reach }) tops marks (λ i h _. own-marks i h)
+      lines-appended fs fields (dark (parentsIn fs) cs) (dark (parentsIn (fs ++ ns)) (cs ++ ks)) (darkened columns) (record { fields = closed; ends = reach }) tops marks own-marks
       ∙ ap (λ (n : ℕ). listed (content .tables) ++ appendedLines n fields columns) (length-map (t .inside .fields .inside) inner)
 
   sum : allMoves (parentsIn (fs ++ ns)) ≡ allMoves (parentsIn fs)

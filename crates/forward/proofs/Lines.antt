@@ -67,8 +67,7 @@ module _ (fs : List FieldContent) (new : List (Framed FieldContent)) (d all own 
   abbrev ns : List FieldContent
   ns = map (λ (f : Framed FieldContent). f .inside) new
 
-  pub lines-appended : Rooted (parentsIn fs) → Tops (parentsIn fs ++ parentsIn ns) (length (parentsIn fs)) → ((k : ℕ) → k < length fs → all k ≡ d k)
-      → ((k : ℕ) → length fs ≤ k → k < length fs + length ns → all k ≡ own k)
+  pub lines-appended : Rooted (parentsIn fs) → Tops (parentsIn fs ++ parentsIn ns) (length (parentsIn fs)) → ((k : ℕ) → k < length fs → all k ≡ d k) → ((k : ℕ) → length fs ≤ k → all k ≡ own k)
       → flat (entry-line (fs ++ ns) all) (order (parentsIn (fs ++ ns)))
       ≡ flat (entry-line fs d) (order (parentsIn fs)) ++ flatBy (λ k f. content-line 0 k (f .inside) (own k)) (length fs) new
   unfolding flat
@@ -94,6 +93,6 @@ module _ (fs : List FieldContent) (new : List (Framed FieldContent)) (d all own 
       ∙ joined-by lines (λ k c. content-line 0 k c (own k)) no-field (length fs) ns
       (λ j less.
       let row = getD-append-add fs ns j no-field in
-      let mark = marks (length fs + j) (omega arith) (omega arith) in
+      let mark = marks (length fs + j) (omega arith) in
       append-nil (w (at-top (length old + j))) ∙ ap (λ (n : ℕ). w (at-top (n + j))) long ∙ (λ i. content-line 0 (length fs + j) (row i) (mark i)))
       ∙ flat-map (λ (f : Framed FieldContent). f .inside) (λ k c. content-line 0 k c (own k)) (length fs) new)
