@@ -23,27 +23,30 @@ use Rattle.forward.proofs.HeaderForward.{the-header, still-read}
 use Rattle.forward.proofs.Appending.{read-more}
 use Rattle.forward.proofs.Lines.{listed, listing-content}
 
--- a call that listed bytes: its header was accepted, and they are the header's listing
-pub record ListedBytes (e bytes : List ℕ) : Type 0 where
+-- a call that listed so many bytes: its header was accepted, and they are the header's listing
+record ListedBytes (e bytes : List ℕ) (n : ℕ) : Type 0 where
   pub header : Header
   pub place : ℕ
   pub reads : headerOf e ≡ found header place
   pub are : bytes ≡ listing e (header .lists)
+  pub count : length bytes ≡ n
 
-listed-call : (e out₀ out : List ℕ) (n : ℕ) → Answered e out₀ out (Listed n) → ListedBytes e (take n out)
+listed-call : (e out₀ out : List ℕ) (n : ℕ) → Answered e out₀ out (Listed n) → ListedBytes e (take n out) n
 unfolding answer left fitted placed
 listed-call e out₀ out n call = by (headerOf e) refl (call .answers) (call .bytesAre)
   where
-    in-front : (bytes : List ℕ) (b : Bool) → Listed n ≡ pick b (Listed (length bytes)) (Refused 20) → out ≡ pick b (over bytes out₀) out₀ → take n out ≡ bytes
+    in-front : (bytes : List ℕ) (b : Bool) → Listed n ≡ pick b (Listed (length bytes)) (Refused 20) → out ≡ pick b (over bytes out₀) out₀
+        → (take n out ≡ bytes) × (length bytes ≡ n)
     in-front bytes true a o =
         let count : n ≡ length bytes = cc in
-        rw (count, o) (take-append-seam bytes (drop (length bytes) out₀))
+        (rw (count, o) (take-append-seam bytes (drop (length bytes) out₀)), sym count)
     in-front bytes false a o = let z : _≡_ {A = ℕ} 0 1 = cc in absurd (omega arith)
 
-    by : (x : Step Header) → headerOf e ≡ x → Listed n ≡ answer (length out₀) e x → out ≡ left out₀ e x → ListedBytes e (take n out)
+    by : (x : Step Header) → headerOf e ≡ x → Listed n ≡ answer (length out₀) e x → out ≡ left out₀ e x → ListedBytes e (take n out) n
     by (found h p) reads a o =
         let bytes = listing e (h .lists) in
-        record { header = h; place = p; reads = reads; are = in-front bytes (leb (length bytes) (length out₀)) a o }
+        let (are, count) = in-front bytes (leb (length bytes) (length out₀)) a o in
+        record { header = h; place = p; reads = reads; are = are; count = ap length are ∙ count }
     by (refused g) reads a o = let z : _≡_ {A = ℕ} 0 1 = cc in absurd (omega arith)
 
 -- a call for an accepted header lists its listing
@@ -60,6 +63,7 @@ listing-forward e out₀ out n bytes call =
     let same : listed (headerContent e h) ≡ take n out = sym (listing-content e (old .reads)) ∙ sym (old .are) in
     record {
       header = the;
+      count = old .count;
       forward = λ new ch small out₁ out′ r call′.
           let still = still-read e h q (old .reads) the new ch small in
           lists (still .reads) (listing-content _ (still .reads) ∙ ap listed (still .contents) ∙ same) call′;

@@ -37,8 +37,10 @@ pub record Lists (bytes out₀ out : List ℕ) (r : ListAnswer) : Type 0 where
 
 -- For a call that listed these bytes: whatever the extension of its header, if small enough, any call for it lists the same bytes; and whatever is
 -- appended to it, any call for that lists the same bytes and then the lines of the appended fields. What such a call is lent is its own.
-pub record ListingKept (e bytes : List ℕ) : Type 0 where
+pub record ListingKept (e bytes : List ℕ) (n : ℕ) : Type 0 where
   pub header : TheHeader e
+  -- they are as many as it answered
+  pub count : length bytes ≡ n
   pub forward : (new : HeaderTree) → ChosenHeader (header .tree) new → length (renderHeader new) ≤ ceiling
       → (out₀ out : List ℕ) (r : ListAnswer) → Answered (renderHeader new) out₀ out r → Lists bytes out₀ out r
   pub append : (fields : List (Framed FieldContent)) (columns : List (Framed ColumnRow)) → Appendix (header .tree) fields columns
@@ -47,4 +49,4 @@ pub record ListingKept (e bytes : List ℕ) : Type 0 where
 
 -- Demand 3 for the listing: for every call that listed a header, whose bytes are the first n of those that it left.
 abbrev pub ListingForward : Type 0
-ListingForward = (e out₀ out : List ℕ) (n : ℕ) → Bytes e → Answered e out₀ out (Listed n) → ListingKept e (take n out)
+ListingForward = (e out₀ out : List ℕ) (n : ℕ) → Bytes e → Answered e out₀ out (Listed n) → ListingKept e (take n out) n
