@@ -31,13 +31,15 @@ use Rattle.tree.specs.Shape.{chars, Shape, Framed, ValidItems, recordShape}
 use Rattle.tree.specs.HeaderTree.{FieldContent, HeaderContent, PayloadContent, headShape, fieldShape, columnShape, aliasShape, flagsIn, parentsIn, fieldContent, headerContent, listsShape, payloadShape, headerCarrier, HeaderTree, renderHeader, tablesOf, RightHeader}
 use Rattle.numbers.proofs.Choice.{both-true, both-false}
 use Rattle.numbers.proofs.Lists.{each-append, each-weaken, each-map, each-at}
-use Rattle.tree.proofs.HeaderLaws.{header-complete, tables-known, parents-same}
+use Rattle.tree.proofs.HeaderLaws.{header-complete, tables-known}
 use Rattle.forward.specs.SameTables.{fieldSays, fieldRow}
-use Rattle.forward.specs.HeaderAppend.{appended, SelfParented, Appendix, HeaderAppend}
+use Rattle.forward.specs.HeaderAppend.{appended, SelfParented, fieldCount, Appendix, HeaderAppend}
+use Rattle.forward.specs.ListingForward.{darkened, appendedLines}
 use Rattle.tree.proofs.HeaderCalls.{answer-of, accepted-call, roomy-call}
-use Rattle.forward.proofs.Calls.{mark, fields-say}
+use Rattle.forward.proofs.Calls.{mark, mark-content, fields-say}
 use Rattle.forward.proofs.HeaderForward.{the-header}
-use Rattle.forward.proofs.Chains.{Tops, reach-appended, above-appended, not-above, moves-appended}
+use Rattle.forward.proofs.Chains.{Tops, reach-appended, above-appended, above-new, not-above, never-above, moves-appended}
+use Rattle.forward.proofs.Lines.{listed, lines-appended}
 
 -- verdicts
 
@@ -144,6 +146,22 @@ own-parents n [] s i h = absurd (omega arith)
 own-parents n (f ∷ fs) s zero h = s .0 ∙ sym (add-zero n)
 own-parents n (f ∷ fs) s (suc i) h = own-parents (suc n) fs (s .1) i (omega arith) ∙ omega arith
 
+abbrev inner : {C : Type 0} → Framed C → C
+inner f = f .inside
+
+-- dark marks
+
+-- an appended field is dark by the appended columns on it alone
+module _ (old new : List ℕ) (closed : Inside old (length old)) (reach : allReach old (length old) ≡ true) (tops : Tops (old ++ new) (length old)) (i : ℕ) (after : length old ≤ i) where
+  own-dark : (cs : List ColumnRow) (columns : List (Framed ColumnRow)) → Each (λ (c : ColumnRow). c .field .0 < length old) cs
+      → Each (λ (c : ColumnRow). length old ≤ c .field .0) (map inner columns) → Each (λ (c : ColumnRow). c .field .0 < length (old ++ new)) (map inner columns)
+      → dark (old ++ new) (cs ++ map inner columns) i ≡ darkened columns i
+  unfolding dark darkened
+  own-dark [] [] a b c = refl
+  own-dark [] (k ∷ ks) a b c = rw (above-new old new closed reach tops i (k .inside .field .0) (b .0) (c .0), own-dark [] ks tt (b .1) (c .1)) refl
+  own-dark (x ∷ cs) ks a b c = rw (never-above old new closed reach tops i (x .field .0) (a .0) after, both-false (not (known (x .«column_type»))), own-dark cs ks (a .1) b c) refl
+
+-- an earlier field is dark as before
 module _ (old new : List ℕ) (closed : Inside old (length old)) (reach : allReach old (length old) ≡ true) (tops : Tops (old ++ new) (length old)) (i : ℕ) (before : i < length old) where
   new-dark : (ks : List ColumnRow) → Each (λ (c : ColumnRow). length old ≤ c .field .0) ks
       → Each (λ (c : ColumnRow). c .field .0 < length (old ++ new)) ks → dark (old ++ new) ks i ≡ false
@@ -157,9 +175,6 @@ module _ (old new : List ℕ) (closed : Inside old (length old)) (reach : allRea
   unfolding dark
   dark-appended [] ks a b c = new-dark ks b c
   dark-appended (x ∷ cs) ks a b c = rw (above-appended old new closed reach tops i (x .field .0) (a .0), dark-appended cs ks (a .1) b c) refl
-
-abbrev inner : {C : Type 0} → Framed C → C
-inner f = f .inside
 
 module _ (t : HeaderTree) (right : RightHeader t) (fields : List (Framed FieldContent)) (columns : List (Framed ColumnRow)) (a : Appendix t fields columns) where
   abbrev content : PayloadContent
@@ -233,10 +248,11 @@ module _ (t : HeaderTree) (right : RightHeader t) (fields : List (Framed FieldCo
   reach : allReach (parentsIn fs) (length (parentsIn fs)) ≡ true
   reach = rw long (right .chains)
 
+  size : length fs + length ns ≡ length (parentsIn fs ++ parentsIn ns)
+  size = omega (arith, length-append (parentsIn fs) (parentsIn ns), long, length-map ns (λ (c : FieldContent). c .head .parent .0))
+
   new-chains : allReach (parentsIn (fs ++ ns)) (length (fs ++ ns)) ≡ true
-  new-chains =
-      let size : length (fs ++ ns) ≡ length (parentsIn fs ++ parentsIn ns) = omega (arith, length-append fs ns, length-append (parentsIn fs) (parentsIn ns), long, length-map ns (λ (c : FieldContent). c .head .parent .0)) in
-      rw (parents-appended, size) (reach-appended (parentsIn fs) (parentsIn ns) closed reach tops)
+  new-chains = rw (parents-appended, length-append fs ns ∙ size) (reach-appended (parentsIn fs) (parentsIn ns) closed reach tops)
 
   pub appended-right : RightHeader (appended t fields columns)
   appended-right =
@@ -259,29 +275,39 @@ module _ (t : HeaderTree) (right : RightHeader t) (fields : List (Framed FieldCo
         chains = subst (λ (c : PayloadContent). allReach (parentsIn (c .tables .fields)) (length (c .tables .fields)) ≡ true) (sym new-content) new-chains;
       }
 
+  -- earlier columns hang on earlier fields, and appended columns on appended ones
+
+  old-on : Each (λ (c : ColumnRow). c .field .0 < length (parentsIn fs)) cs
+  old-on = rw long (each-weaken (column-field (length fs)) cs old-valid′)
+
+  new-on : Each (λ (c : ColumnRow). length (parentsIn fs) ≤ c .field .0) ks
+  new-on = rw (long, length-map (t .inside .fields .inside) inner) (each-map (λ (c : ColumnRow). length (t .inside .fields .inside) ≤ c .field .0) inner columns (a .onThem))
+
+  new-below : Each (λ (c : ColumnRow). c .field .0 < length (parentsIn fs ++ parentsIn ns)) ks
+  new-below = rw (← size) (each-weaken (column-field (length fs + length ns)) ks validColumns)
+
   marks : (i : ℕ) → i < length fs → dark (parentsIn (fs ++ ns)) (cs ++ ks) i ≡ dark (parentsIn fs) cs i
-  marks i h =
-      let size : length fs + length ns ≡ length (parentsIn fs ++ parentsIn ns) = omega (arith, length-append (parentsIn fs) (parentsIn ns), long, length-map ns (λ (c : FieldContent). c .head .parent .0)) in
-      let old : Each (λ (c : ColumnRow). c .field .0 < length (parentsIn fs)) cs = rw long (each-weaken (column-field (length fs)) cs old-valid′) in
-      let new : Each (λ (c : ColumnRow). length (parentsIn fs) ≤ c .field .0) ks = rw (long, length-map (t .inside .fields .inside) inner) (each-map (λ (c : ColumnRow). length (t .inside .fields .inside) ≤ c .field .0) inner columns (a .onThem)) in
-      let new′ : Each (λ (c : ColumnRow). c .field .0 < length (parentsIn fs ++ parentsIn ns)) ks = rw (← size) (each-weaken (column-field (length fs + length ns)) ks validColumns) in
-      rw parents-appended (dark-appended (parentsIn fs) (parentsIn ns) closed reach tops i (omega (arith, long)) cs ks old new new′)
+  marks i h = rw parents-appended (dark-appended (parentsIn fs) (parentsIn ns) closed reach tops i (omega (arith, long)) cs ks old-on new-on new-below)
+
+  own-marks : (i : ℕ) → length fs ≤ i → dark (parentsIn (fs ++ ns)) (cs ++ ks) i ≡ darkened columns i
+  own-marks i h = rw parents-appended (own-dark (parentsIn fs) (parentsIn ns) closed reach tops i (omega (arith, long)) cs columns old-on new-on new-below)
+
+  lines : listed (with-rows content ns ks .tables) ≡ listed (content .tables) ++ appendedLines (length (t .inside .fields .inside)) fields columns
+  lines =
+      lines-appended fs fields (dark (parentsIn fs) cs) (dark (parentsIn (fs ++ ns)) (cs ++ ks)) (darkened columns) (record { fields = closed; ends = reach }) tops marks own-marks
+      ∙ ap (λ (n : ℕ). listed (content .tables) ++ appendedLines n fields columns) (length-map (t .inside .fields .inside) inner)
 
   sum : allMoves (parentsIn (fs ++ ns)) ≡ allMoves (parentsIn fs)
   sum = ap allMoves parents-appended ∙ moves-appended (parentsIn fs) (parentsIn ns) closed reach tops
 
 -- the tables of a header with fields and columns appended
 
-mark-content : (e : List ℕ) (h : Header) (i : ℕ) → mark (h .lists) i ≡ dark (parentsIn (headerContent e h .fields)) (headerContent e h .columns) i
-unfolding headerContent
-mark-content e h i = ap (λ (l : List ℕ). dark l (h .lists .columns) i) (parents-same e (h .lists .fields))
-
 count-content : (e : List ℕ) (h : Header) → length (h .lists .fields) ≡ length (headerContent e h .fields)
 unfolding headerContent
 count-content e h = sym (length-map (h .lists .fields) (fieldContent e))
 
--- e′ is accepted, with the tables of h in e and these rows after its own
-pub record ReadMore (e : List ℕ) (h : Header) (e′ : List ℕ) (fields : List (Framed FieldContent)) (columns : List (Framed ColumnRow)) : Type 0 where
+-- e′ is accepted, with the tables of h in e and these rows after its own, from number n on
+pub record ReadMore (e : List ℕ) (h : Header) (e′ : List ℕ) (n : ℕ) (fields : List (Framed FieldContent)) (columns : List (Framed ColumnRow)) : Type 0 where
   pub header : Header
   pub place : ℕ
   pub reads : headerOf e′ ≡ found header place
@@ -292,10 +318,11 @@ pub record ReadMore (e : List ℕ) (h : Header) (e′ : List ℕ) (fields : List
   pub aliasesAre : headerContent e′ header .aliases ≡ headerContent e h .aliases
   pub marks-are : (i : ℕ) → i < length (h .lists .fields) → mark (header .lists) i ≡ mark (h .lists) i
   pub moves-are : allMoves (parentsIn (headerContent e′ header .fields)) ≡ allMoves (parentsIn (headerContent e h .fields))
+  pub lines-are : listed (headerContent e′ header) ≡ listed (headerContent e h) ++ appendedLines n fields columns
 
 pub read-more : (e : List ℕ) (h : Header) (q : ℕ) → headerOf e ≡ found h q → (t : HeaderTree) → RightHeader t → renderHeader t ≡ e
     → (fields : List (Framed FieldContent)) (columns : List (Framed ColumnRow)) → Appendix t fields columns
-    → ReadMore e h (renderHeader (appended t fields columns)) fields columns
+    → ReadMore e h (renderHeader (appended t fields columns)) (fieldCount t) fields columns
 read-more e h q reads t right is fields columns a =
     let means : headerContent e h ≡ tablesOf t = tables-known t right e h q is reads in
     let t′ = appended t fields columns in
@@ -317,6 +344,7 @@ read-more e h q reads t right is fields columns a =
           ∙ marks t right fields columns a i (omega (arith, count))
           ∙ sym (ap (λ (c : HeaderContent). dark (parentsIn (c .fields)) (c .columns) i) means) ∙ sym (mark-content e h i);
       moves-are = ap (λ (c : HeaderContent). allMoves (parentsIn (c .fields))) means′ ∙ sum t right fields columns a ∙ sym (ap (λ (c : HeaderContent). allMoves (parentsIn (c .fields))) means);
+      lines-are = ap listed means′ ∙ lines t right fields columns a ∙ sym (ap (λ (c : HeaderContent). listed c ++ appendedLines (fieldCount t) fields columns) means);
     }
 
 -- words of rows

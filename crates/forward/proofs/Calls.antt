@@ -88,11 +88,13 @@ fields-say e e′ f₀ f₀′ l l′ extra same marks i less =
     (λ j h. ap bit (marks j (omega arith))) less
 
 -- the mark hangs on the contents alone
-pub mark-same : (e e′ : List ℕ) (h h′ : Header) → headerContent e′ h′ ≡ headerContent e h → (i : ℕ) → mark (h′ .lists) i ≡ mark (h .lists) i
+
+pub mark-content : (e : List ℕ) (h : Header) (i : ℕ) → mark (h .lists) i ≡ dark (parentsIn (headerContent e h .fields)) (headerContent e h .columns) i
 unfolding headerContent
-mark-same e e′ h h′ same i =
-    ap (λ (l : List ℕ). dark l (h′ .lists .columns) i) (parents-same e′ (h′ .lists .fields)) ∙ ap (λ (c : HeaderContent). dark (parentsIn (c .fields)) (c .columns) i) same
-    ∙ sym (ap (λ (l : List ℕ). dark l (h .lists .columns) i) (parents-same e (h .lists .fields)))
+mark-content e h i = ap (λ (l : List ℕ). dark l (h .lists .columns) i) (parents-same e (h .lists .fields))
+
+pub mark-same : (e e′ : List ℕ) (h h′ : Header) → headerContent e′ h′ ≡ headerContent e h → (i : ℕ) → mark (h′ .lists) i ≡ mark (h .lists) i
+mark-same e e′ h h′ same i = mark-content e′ h′ i ∙ ap (λ (c : HeaderContent). dark (parentsIn (c .fields)) (c .columns) i) same ∙ sym (mark-content e h i)
 
 pub field-counts : (e e′ : List ℕ) (h h′ : Header) → headerContent e′ h′ ≡ headerContent e h → length (h′ .lists .fields) ≡ length (h .lists .fields)
 unfolding headerContent

@@ -65,9 +65,23 @@ module _ (parents new : List ℕ) (closed : Inside parents (length parents)) (re
   pub above-appended : (f g : ℕ) → g < length parents → isAbove (parents ++ new) (length (parents ++ new)) f g ≡ isAbove parents (length parents) f g
   above-appended f g h = sym (isAbove-same parents (parents ++ new) (length parents) closed same (length (parents ++ new)) f g h) ∙ ap (λ (k : ℕ). isAbove parents k f g) (length-append parents new) ∙ above-more parents (length parents) (length new) f g (reach-each parents (length parents) g reach h)
 
+  -- above an appended field is itself alone
+  pub above-new : (f g : ℕ) → length parents ≤ g → g < length (parents ++ new) → isAbove (parents ++ new) (length (parents ++ new)) f g ≡ eqb f g
+  above-new f g l m = above-top (parents ++ new) (length (parents ++ new)) f g (eq-eqb (getD (parents ++ new) g 0) g (tops g l m))
+
   pub not-above : (f g : ℕ) → f < length parents → length parents ≤ g → g < length (parents ++ new)
       → isAbove (parents ++ new) (length (parents ++ new)) f g ≡ false
-  not-above f g h l m = above-top (parents ++ new) (length (parents ++ new)) f g (eq-eqb (getD (parents ++ new) g 0) g (tops g l m)) ∙ ne-eqb f g (λ e. omega arith)
+  not-above f g h l m = above-new f g l m ∙ ne-eqb f g (λ e. omega arith)
+
+  -- an appended field is above no earlier one
+
+  stays-below : (k f g : ℕ) → g < length parents → length parents ≤ f → isAbove parents k f g ≡ false
+  unfolding meets
+  stays-below zero f g h l = ne-eqb f g (λ e. omega arith)
+  stays-below (suc k) f g h l = rw (ne-eqb f g (λ e. omega arith)) (stays-below k f (getD parents g 0) (closed g h) l)
+
+  pub never-above : (f g : ℕ) → g < length parents → length parents ≤ f → isAbove (parents ++ new) (length (parents ++ new)) f g ≡ false
+  never-above f g h l = above-appended f g h ∙ stays-below (length parents) f g h l
 
   old-total : (m : ℕ) → m ≤ length parents → totalMoves (parents ++ new) (length (parents ++ new)) m ≡ totalMoves parents (length parents) m
   unfolding totalMoves

@@ -1,5 +1,5 @@
 -- What bytes the lines of a listing have.
-use Prim.Native.Nat.{ℕ, zero, suc, _*_, _≤_}
+use Prim.Native.Nat.{ℕ, zero, suc, _*_, _≤_, _<_}
 use mathlib.Core.Path.{_≡_, refl, ap, subst, _∙_}
 use mathlib.Core.Logic.{_⊎_, inl, inr}
 use mathlib.Core.Bool.{Bool, true, false}
@@ -15,12 +15,12 @@ use Rattle.rows.specs.declared.FieldRow.{FieldRow}
 use Rattle.header.specs.Tables.{parentsOf}
 use Rattle.moves.proofs.Laws.{field-count, header-rooted}
 use Rattle.listing.specs.Order.{Entry, order}
-use Rattle.listing.specs.Listed.{times, Every}
+use Rattle.listing.specs.Listed.{fieldsIn, times, Every}
 use Rattle.listing.specs.Lines.{shownByte, shown, darkWord, line, entryLine, rowIn, darkIn, listing}
 use Rattle.listing.specs.Statements.{OneLineEach, Printable, BytesKept}
 use Rattle.listing.proofs.TimesLaws.{every-append, every-map, times-append, times-never}
 use Rattle.listing.proofs.DigitLaws.{decimal-digits}
-use Rattle.listing.proofs.RankLaws.{as-many}
+use Rattle.listing.proofs.RankLaws.{as-many, order-within}
 
 -- a byte that prints as it is
 abbrev pub Plain : ℕ → Type 0
@@ -102,6 +102,15 @@ module _ {A : Type 0} (w : A → List ℕ) where
   unfolding flat
   every-flat such h [] = tt
   every-flat such h (x ∷ l) = every-append such (w x) (flat w l) (h x) (every-flat such h l)
+
+-- lines that are the same for each field
+pub lines-same : (w v : Entry → List ℕ) (parents : List ℕ) → ((x : Entry) → x .field < length parents → w x ≡ v x) → flat w (order parents) ≡ flat v (order parents)
+unfolding flat
+lines-same w v parents e = go (order parents) (order-within parents)
+  where
+    go : (l : List Entry) → Every (λ k. k < length parents) (fieldsIn l) → flat w l ≡ flat v l
+    go [] all = refl
+    go (x ∷ l) all = λ i. e x (all .0) i ++ go l (all .1) i
 
 pub one-line-each : OneLineEach
 unfolding listing

@@ -4,7 +4,7 @@ use mathlib.Core.Path.{_≡_, refl, sym, ap, _∙_}
 use mathlib.Core.Bool.{Bool, true, false}
 use mathlib.Core.List.{List, [], _∷_}
 use native.Mathlib.Omega.{arith}
-use lib.Dec.{eqb, ltb}
+use lib.Dec.{eqb, ltb, leb}
 use lib.ListN.{length}
 use borrow.Author.Tests.{eqb-true, eqb-false, eq-eqb, ne-eqb, ltb-true}
 use Rattle.numbers.specs.Choice.{pick, both}
@@ -20,6 +20,10 @@ use Rattle.header.specs.declared.HeaderAnswer.{HeaderAnswer}
 use Rattle.header.specs.declared.HeaderAnswer.the-variants.{Accepted, Refused}
 use Rattle.moves.specs.Moves.{answer as movesAnswer, outcomeOf as movesOutcome}
 use Rattle.moves.specs.declared.MovesAnswer.{MovesAnswer}
+use Rattle.listing.specs.Lines.{listing}
+use Rattle.listing.specs.Answers.{fitted, answer as listAnswer, outcomeOf as listOutcome}
+use Rattle.listing.specs.declared.ListAnswer.{ListAnswer}
+use Rattle.listing.specs.declared.ListAnswer.the-variants.{Listed as ListedBytes, Refused as RefusedBytes}
 use Rattle.footer.specs.Footer.{Footer, footerOf}
 use Rattle.footer.specs.Tables.{footerBeside, besideByBuild, answer as footerAnswer, outcomeOf as footerOutcome, roomFor as footerRoom}
 use Rattle.footer.specs.declared.FooterAnswer.{FooterAnswer}
@@ -31,7 +35,7 @@ use Rattle.page_list.specs.declared.PageListAnswer.{PageListAnswer}
 use Rattle.page_list.specs.declared.PageListAnswer.the-variants.{Accepted as AcceptedPages, Refused as RefusedPages}
 use Rattle.rows.specs.declared.PageRow.{PageRow}
 use Rattle.pairing.specs.Paired.{pairedOf, pairedBeside}
-use Rattle.refusals.specs.Refusals.{among, inHeader, inFooter, inPageList, inPairing, HeaderNumbers, FooterNumbers, PageListNumbers, PairingNumbers, withRoom, ofFirst, ofHeader, ofMoves, ofBeside, possible, Told, HeaderRefusals, MovesRefusals, FooterRefusals, PageListRefusals, PairingRefusals}
+use Rattle.refusals.specs.Refusals.{among, inHeader, inFooter, inPageList, inPairing, HeaderNumbers, FooterNumbers, PageListNumbers, PairingNumbers, withRoom, ofFirst, ofHeader, ofMoves, ofBeside, possible, Told, HeaderRefusals, MovesRefusals, ListRefusals, FooterRefusals, PageListRefusals, PairingRefusals}
 use Rattle.refusals.proofs.Naming.{no, among-more}
 use Rattle.refusals.proofs.HeaderNumbers.{header-numbers}
 use Rattle.refusals.proofs.FooterNumbers.{footer-numbers}
@@ -121,6 +125,25 @@ unfolding MovesRefusals HeaderNumbers
 moves-refusals e r call =
     told ofMoves (first-byte inHeader refl) (movesOutcome r)
     (ap (λ (y : MovesAnswer). possible ofMoves (movesOutcome y)) (call .answers) ∙ moves-possible (headerOf e) (header-numbers e))
+
+-- listings
+
+list-possible : (room : ℕ) (e : List ℕ) → possible ofHeader (listOutcome (listAnswer room e (headerOf e))) ≡ true
+unfolding listAnswer fitted HeaderNumbers among
+list-possible room e = by (headerOf e) (header-numbers e)
+  where
+    fits : (b : Bool) (n : ℕ) → possible ofHeader (listOutcome (pick b (ListedBytes n) (RefusedBytes 20))) ≡ true
+    fits true n = refl
+    fits false n = refl
+
+    by : (x : Step Header) → ((g : Fault) → x ≡ refused g → among inHeader (g .number) ≡ true) → possible ofHeader (listOutcome (listAnswer room e x)) ≡ true
+    by (found h p) numbers = let bytes = listing e (h .lists) in fits (leb (length bytes) room) (length bytes)
+    by (refused g) numbers = among-more 20 inHeader (g .number) (numbers g refl)
+
+pub list-refusals : ListRefusals
+unfolding ListRefusals
+list-refusals e out₀ out r call =
+    told ofHeader (first-byte (withRoom inHeader) refl) (listOutcome r) (ap (λ (y : ListAnswer). possible ofHeader (listOutcome y)) (call .answers) ∙ list-possible (length out₀) e)
 
 -- what is read beside a header: by the header's refusal, a refusal of its own, and what was read
 beside-any : {A : Type 0} (P : Beside A → Type 0) (k : ℕ) (ns : List ℕ) (r : Header → Step A) → ((h : Header) (f : Fault) → r h ≡ refused f → among ns (f .number) ≡ true)

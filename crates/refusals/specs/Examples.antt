@@ -8,10 +8,12 @@ use Rattle.wire.specs.Reading.{Step, found, refused}
 use Rattle.envelope.specs.Envelope.{ceiling, checksumOf}
 use Rattle.header.specs.Header.{Header}
 use Rattle.header.specs.Tables.{headerOf}
+use Rattle.listing.specs.Answers.{reported}
+use Rattle.listing.specs.Samples.{vectorHeader}
 use Rattle.footer.specs.Footer.{footerOf}
 use Rattle.page_list.specs.PageList.{pageListOf}
 use Rattle.pairing.specs.Paired.{pairedOf}
-use Rattle.refusals.specs.Refusals.{inHeader, inFooter, inPageList, inPairing}
+use Rattle.refusals.specs.Refusals.{inHeader, withRoom, inFooter, inPageList, inPairing}
 
 -- the number of a refusal, 0 where there is none
 abbrev pub numberOf : {A : Type 0} → Step A → ℕ
@@ -140,6 +142,8 @@ goodPageList =
 -- the first number is that of any envelope above the ceiling
 pub record EachGiven : Type 0 where
   pub inHeaders : (long : List ℕ) → ceiling < length long → map (λ (e : List ℕ). numberOf (headerOf e)) (long ∷ headers) ≡ inHeader
+  -- 20 for an accepted header that has fields, where no byte is lent for their lines, and the header's numbers
+  pub inListings : (long : List ℕ) → ceiling < length long → map (λ (e : List ℕ). reported 0 e .number) (vectorHeader ∷ long ∷ headers) ≡ withRoom inHeader
   pub inFooters : (long : List ℕ) → ceiling < length long → map (λ (g : List ℕ). numberOf (footerOf 7 100 g)) (long ∷ footers) ≡ inFooter
   pub inPageLists : (long : List ℕ) → ceiling < length long → map (λ (l : List ℕ). numberOf (pageListOf oneColumn 3 100 l)) (long ∷ pageLists) ≡ inPageList
   -- 26 for a row with another checksum, 7, and the page list's numbers for rows with its own

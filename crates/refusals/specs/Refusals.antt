@@ -13,6 +13,8 @@ use Rattle.header.specs.Tables.{headerOf, outcomeOf, Answered}
 use Rattle.header.specs.declared.HeaderAnswer.{HeaderAnswer}
 use Rattle.moves.specs.Moves.{outcomeOf as movesOutcome, Answered as AnsweredMoves}
 use Rattle.moves.specs.declared.MovesAnswer.{MovesAnswer}
+use Rattle.listing.specs.Answers.{outcomeOf as listOutcome, Answered as AnsweredList}
+use Rattle.listing.specs.declared.ListAnswer.{ListAnswer}
 use Rattle.footer.specs.Footer.{footerOf}
 use Rattle.footer.specs.Tables.{footerBeside, outcomeOf as footerOutcome, Answered as AnsweredFooter}
 use Rattle.footer.specs.declared.FooterAnswer.{FooterAnswer}
@@ -88,7 +90,7 @@ pub record Told (refusals : ℕ → ℕ → Bool) (o : Outcome) : Type 0 where
   pub envelope : codeOf o / 256 ≡ o .envelope
   pub number : codeOf o % 256 ≡ o .number
 
--- every call of each reader, and of the call that counts moves
+-- every call of each reader, of the call that counts moves and of the call that lists fields
 
 unfoldable pub HeaderRefusals : Type 0
 HeaderRefusals =
@@ -96,6 +98,10 @@ HeaderRefusals =
 
 unfoldable pub MovesRefusals : Type 0
 MovesRefusals = (e : List ℕ) (r : MovesAnswer) → AnsweredMoves (headerOf e) r → Told ofMoves (movesOutcome r)
+
+-- a listing is refused as a header is: 20 is about the bytes that are lent for it
+unfoldable pub ListRefusals : Type 0
+ListRefusals = (e out₀ out : List ℕ) (r : ListAnswer) → AnsweredList e out₀ out r → Told ofHeader (listOutcome r)
 
 unfoldable pub FooterRefusals : Type 0
 FooterRefusals =
