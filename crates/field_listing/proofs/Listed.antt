@@ -1,8 +1,8 @@
 -- From the scan of a header to the listing of its fields.
 use Prim.Native.Nat.{ℕ, _<_}
-use mathlib.Core.Path.{_≡_, refl, sym, ap, ap₂, _∙_}
+use mathlib.Core.Path.{_≡_, sym, ap, _∙_}
 use mathlib.Core.Bool.{Bool}
-use mathlib.Core.List.{List, [], _∷_, _++_}
+use mathlib.Core.List.{List, []}
 use native.Mathlib.Omega.{arith}
 use lib.Dec.{eqb}
 use lib.ListN.{length, getD}
@@ -22,24 +22,18 @@ use Rattle.header_reader.specs.Fits.{Scanned}
 use Rattle.header_reader.proofs.ReadLaws.{m, left as rows-left, is-found, fields-count, some-parents, few, mark-is}
 use Rattle.moves.proofs.Laws.{field-count, header-rooted}
 use Rattle.listing.specs.Order.{Entry, order, orderOf}
-use Rattle.listing.specs.Listed.{fieldsIn, Every}
 use Rattle.listing.specs.Lines.{entryLine, rowIn, darkIn, marked, listing}
 use Rattle.listing.specs.Answers.{fitted, placed, answer, left, outcomeOf, Answered}
 use Rattle.listing.specs.declared.ListAnswer.{ListAnswer}
 use Rattle.listing.specs.declared.ListAnswer.the-variants.{Refused}
 use Rattle.listing.proofs.Front.{order-front}
-use Rattle.listing.proofs.RankLaws.{order-within}
+use Rattle.listing.proofs.LineLaws.{lines-same}
 
 -- a line is told by the row and the mark of its field
-module _ (e : List ℕ) {row row′ : ℕ → FieldRow} {d d′ : ℕ → Bool} {n : ℕ} (rows : (k : ℕ) → k < n → row k ≡ row′ k) (marks : (k : ℕ) → d k ≡ d′ k) where
-  line-same : (x : Entry) → x .field < n → entryLine e row d x ≡ entryLine e row′ d′ x
-  unfolding entryLine
-  line-same x l = rw (rows (x .field) l, marks (x .field))
-
-  lines-same : (l : List Entry) → Every (λ (k : ℕ). k < n) (fieldsIn l) → flat (entryLine e row d) l ≡ flat (entryLine e row′ d′) l
-  unfolding flat
-  lines-same [] a = refl
-  lines-same (x ∷ l) a = ap₂ (λ (p q : List ℕ). p ++ q) (line-same x (a .0)) (lines-same l (a .1))
+line-same : (e : List ℕ) {row row′ : ℕ → FieldRow} {d d′ : ℕ → Bool} {n : ℕ} → ((k : ℕ) → k < n → row k ≡ row′ k) → ((k : ℕ) → d k ≡ d′ k)
+    → (x : Entry) → x .field < n → entryLine e row d x ≡ entryLine e row′ d′ x
+unfolding entryLine
+line-same e rows marks x l = rw (rows (x .field) l, marks (x .field))
 
 answered : (e : List ℕ) {out out′ : List ℕ} {r : ListAnswer} → r ≡ answer (length out) e (headerOf e) → out′ ≡ left out e (headerOf e) → Answered e out out′ r
 answered e is bytes = record { answers = is; reports = ap outcomeOf is; bytesAre = bytes }
@@ -66,7 +60,7 @@ module _ (e : List ℕ) {scan : HeaderScan} {q : ℕ} (w : found scan q ≡ mapp
 
   listing-is : flat (entryLine e (fieldRow r) (marked marks)) (orderOf p (scan .lists .fields)) ≡ listing e (m e w k .value .lists)
   unfolding listing
-  listing-is = ap (flat (entryLine e (fieldRow r) (marked marks))) order-is ∙ lines-same e row-is mark-told (order (parentsOf (m e w k .value .lists .fields))) (order-within (parentsOf (m e w k .value .lists .fields)))
+  listing-is = ap (flat (entryLine e (fieldRow r) (marked marks))) order-is ∙ lines-same _ _ (parentsOf (m e w k .value .lists .fields)) (line-same e row-is mark-told)
 
   pub listed-answer : {out out′ : List ℕ} {x : ListAnswer} → x ≡ fitted (length out) (flat (entryLine e (fieldRow r) (marked marks)) (orderOf p (scan .lists .fields)))
       → out′ ≡ placed out (flat (entryLine e (fieldRow r) (marked marks)) (orderOf p (scan .lists .fields))) → Answered e out out′ x
