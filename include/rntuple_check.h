@@ -137,7 +137,7 @@ uint32_t rnt_parent_moves(const uint8_t *header, size_t header_length,
  * written as '?', all others as they are, so that the listing is well-formed
  * UTF-8.
  *
- * No table is lent. The call takes up to about 300 KiB of stack.
+ * No table is lent. The call takes up to about 200 KiB of stack.
  *
  * Refusals have envelope 1: those of rnt_read_header with room enough for its
  * rows; last 20, where the listing is longer than the lent bytes. There is no

@@ -6,7 +6,7 @@ use differential::reference::list_fields;
 use differential::writer::{Column, Field, Header, Writer};
 
 /// What the C header says, and what a thread needs for itself.
-const STACK: usize = (300 << 10) + (32 << 10);
+const STACK: usize = (200 << 10) + (32 << 10);
 
 /// A header of 512 fields with these parents, dark from one of them on.
 fn header(parent: impl Fn(u32) -> u32) -> Vec<u8> {
