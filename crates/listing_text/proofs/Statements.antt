@@ -24,7 +24,7 @@ use Rattle.listing.proofs.DigitLaws.{decimal-digits}
 use Rattle.listing_text.specs.Statements.{ListingIsText, ListingWellFormed, WrittenIsText}
 use Rattle.listing_text.proofs.TextLaws.{text-none, text-append, text-flat, text-one, text-ascii}
 use Rattle.listing_text.proofs.ShownLaws.{shown-text}
-use Rattle.listing_text.proofs.NameLaws.{row-named}
+use Rattle.listing_text.proofs.NameLaws.{read-text, row-named}
 
 spaces-text : (k : ℕ) → Text (replicate k 32)
 spaces-text zero = text-none
@@ -46,14 +46,14 @@ line-text level field d name type =
 
 pub listing-is-text : ListingIsText
 unfolding listing entryLine
-listing-is-text e h p bytes reads =
-    let row = row-named e h p bytes reads in
+listing-is-text e h p reads =
+    let row = row-named e reads in
     text-flat (entryLine e (rowIn (h .lists)) (darkIn (h .lists)))
-    (λ x. line-text (x .level) (x .field) (darkIn (h .lists) (x .field)) (row (x .field) .name) (row (x .field) .typeName))
+    (λ x. line-text (x .level) (x .field) (darkIn (h .lists) (x .field)) (read-text e _ (row (x .field) .name)) (read-text e _ (row (x .field) .typeName)))
     (order (parentsOf (h .lists .fields)))
 
 pub listing-well-formed : ListingWellFormed
-listing-well-formed e h p bytes reads = well-formed-exactly .encodes (listing e (h .lists)) .1 (listing-is-text e h p bytes reads)
+listing-well-formed e h p reads = well-formed-exactly .encodes (listing e (h .lists)) .1 (listing-is-text e h p reads)
 
 -- bytes that fitted stand in front
 placed-front : (out bytes : List ℕ) (n : ℕ) → Listed n ≡ fitted (length out) bytes → take n (placed out bytes) ≡ bytes
@@ -66,9 +66,9 @@ placed-front out bytes n = by (leb (length bytes) (length out))
 
 pub written-is-text : WrittenIsText
 unfolding answer left
-written-is-text e out out′ n bytes call = by (headerOf e) refl (call .answers) (call .bytesAre)
+written-is-text e out out′ n call = by (headerOf e) refl (call .answers) (call .bytesAre)
   where
     by : (x : Step Header) → headerOf e ≡ x → Listed n ≡ answer (length out) e x → out′ ≡ left out e x → Text (take n out′)
     by (found h p) reads is held =
-        subst Text (sym (ap (take n) held ∙ placed-front out (listing e (h .lists)) n is)) (listing-is-text e h p bytes reads)
+        subst Text (sym (ap (take n) held ∙ placed-front out (listing e (h .lists)) n is)) (listing-is-text e h p reads)
     by (refused f) reads is held = absurd (let z : _≡_ {A = ℕ} 0 1 = cc in omega arith)
