@@ -1,0 +1,4 @@
+pub mod TextLaws
+pub mod ShownLaws
+pub mod NameLaws
+pub mod Statements
