@@ -19,7 +19,7 @@ use Rattle.listing.specs.Order.{Entry, joined, order}
 use Rattle.listing.specs.Lines.{line, entryLine, rowIn, darkIn, listing}
 use Rattle.listing.proofs.OrderLaws.{joined-each}
 use Rattle.listing.proofs.LineLaws.{lines-same}
-use Rattle.listing.proofs.NameLaws.{name-stands, type-stands}
+use Rattle.listing_text.proofs.NameLaws.{name-stands, type-stands}
 use Rattle.listing.proofs.AppendLaws.{at-top, joined-by, order-appended}
 use Rattle.tree.specs.Shape.{Framed}
 use Rattle.tree.specs.HeaderTree.{FieldContent, HeaderContent, fieldContent, headerContent, parentsIn}
@@ -51,8 +51,8 @@ listing-content e {h} reads =
     let k = x .field in
     let n = field-count (l .fields) in
     let row : getD fs k no-field ≡ fieldContent e (rowIn l k) = List·getD-map (fieldContent e) (l .fields) k (fieldOf []) in
-    let name = name-stands e reads k (omega arith) ∙ sym (ap (λ (c : FieldContent). c .texts .name) row) in
-    let type = type-stands e reads k (omega arith) ∙ sym (ap (λ (c : FieldContent). c .texts .typeName) row) in
+    let name = name-stands e reads k ∙ sym (ap (λ (c : FieldContent). c .texts .name) row) in
+    let type = type-stands e reads k ∙ sym (ap (λ (c : FieldContent). c .texts .typeName) row) in
     let mark = mark-content e h k in
     λ i. line (x .level) k (name i) (type i) (mark i))
     ∙ ap (λ (parents : List ℕ). flat (entry-line fs (dark (parentsIn fs) (l .columns))) (order parents)) (parents-same e (l .fields))

@@ -9,8 +9,8 @@ use lib.Dec.{ltb}
 use lib.ListN.{length, length-append}
 use Rattle.numbers.proofs.Choice.{which}
 use Rattle.decimals.specs.Decimal.{decimalBy, decimal}
-use Rattle.listing.specs.Listed.{Every}
-use Rattle.listing.proofs.TimesLaws.{every-append}
+use Rattle.numbers.specs.Lists.{Each}
+use Rattle.numbers.proofs.Lists.{each-append}
 
 -- the number that digits are, after those read before
 value : ℕ → List ℕ → ℕ
@@ -39,14 +39,14 @@ decimal-some (suc steps) n =
 abbrev pub Digit : ℕ → Type 0
 Digit b = (48 ≤ b) × (b < 58)
 
-pub decimal-digits : (steps n : ℕ) → n ≤ steps → Every Digit (decimalBy steps n)
+pub decimal-digits : (steps n : ℕ) → n ≤ steps → Each Digit (decimalBy steps n)
 unfolding decimalBy
 decimal-digits zero n l = ((omega arith, omega arith), tt)
 decimal-digits (suc steps) n l =
     ⊎-elim (λ t. rw t ((omega arith, omega (arith, ltb-true n 10 t)), tt))
     (λ t.
     let m = ltb-false n 10 t in
-    rw t (every-append Digit (decimalBy steps (n / 10)) ((48 + n % 10) ∷ []) (decimal-digits steps (n / 10) (omega arith)) ((omega arith, omega arith), tt)))
+    rw t (each-append Digit (decimalBy steps (n / 10)) ((48 + n % 10) ∷ []) (decimal-digits steps (n / 10) (omega arith)) ((omega arith, omega arith), tt)))
     (which (ltb n 10))
 
 pub decimal-same : (n m : ℕ) → decimal n ≡ decimal m → n ≡ m

@@ -11,6 +11,5 @@ pub mod Statements
 pub mod TellingLaws
 pub mod ReadLaws
 pub mod Besides
-pub mod NameLaws
 pub mod AppendLaws
 pub mod Samples

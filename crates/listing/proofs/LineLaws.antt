@@ -15,10 +15,12 @@ use Rattle.rows.specs.declared.FieldRow.{FieldRow}
 use Rattle.header.specs.Tables.{parentsOf}
 use Rattle.moves.proofs.Laws.{field-count, header-rooted}
 use Rattle.listing.specs.Order.{Entry, order}
-use Rattle.listing.specs.Listed.{fieldsIn, times, Every}
+use Rattle.listing.specs.Listed.{fieldsIn, times}
+use Rattle.numbers.specs.Lists.{Each}
+use Rattle.numbers.proofs.Lists.{each-append, each-weaken}
 use Rattle.listing.specs.Lines.{shownByte, shown, darkWord, line, entryLine, rowIn, darkIn, listing}
 use Rattle.listing.specs.Statements.{OneLineEach, Printable, BytesKept}
-use Rattle.listing.proofs.TimesLaws.{every-append, every-map, times-append, times-never}
+use Rattle.listing.proofs.TimesLaws.{times-append, times-never}
 use Rattle.listing.proofs.DigitLaws.{decimal-digits}
 use Rattle.listing.proofs.RankLaws.{as-many, order-within}
 
@@ -34,24 +36,24 @@ byte-plain b true last e f = (omega arith, λ z. omega arith)
 byte-plain b false true e f = (omega arith, λ z. omega arith)
 byte-plain b false false e f = (ltb-false b 32 e, eqb-false b 127 f)
 
-shown-plain : (l : List ℕ) → Every Plain (shown l)
+shown-plain : (l : List ℕ) → Each Plain (shown l)
 shown-plain [] = tt
 shown-plain (b ∷ l) = (byte-plain b (ltb b 32) (eqb b 127) refl refl, shown-plain l)
 
 -- what is shown of bytes that print is they themselves
 
-kept : (l : List ℕ) → Every Plain l → shown l ≡ l
+kept : (l : List ℕ) → Each Plain l → shown l ≡ l
 kept [] w = refl
 kept (b ∷ l) w = λ i. bytes-kept b (w .0 .0) (w .0 .1) i ∷ kept l (w .1) i
 
-spaces-plain : (k : ℕ) → Every Plain (replicate k 32)
+spaces-plain : (k : ℕ) → Each Plain (replicate k 32)
 spaces-plain zero = tt
 spaces-plain (suc k) = ((omega arith, λ e. omega arith), spaces-plain k)
 
-digits-plain : (n : ℕ) → Every Plain (decimal n)
-digits-plain n = every-map (λ b w. let l = w .0 in let m = w .1 in (omega arith, λ e. omega arith)) (decimal n) (decimal-digits n n (omega arith))
+digits-plain : (n : ℕ) → Each Plain (decimal n)
+digits-plain n = each-weaken (λ b w. let l = w .0 in let m = w .1 in (omega arith, λ e. omega arith)) (decimal n) (decimal-digits n n (omega arith))
 
-kept-front : (a l : List ℕ) → Every Plain a → shown (a ++ l) ≡ a ++ shown l
+kept-front : (a l : List ℕ) → Each Plain a → shown (a ++ l) ≡ a ++ shown l
 kept-front a l w = map-append shownByte a l ∙ ap (λ (r : List ℕ). r ++ shown l) (kept a w)
 
 -- how a line starts
@@ -61,7 +63,7 @@ front x rest = replicate (2 * x .level) 32 ++ (decimal (x .field) ++ (32 ∷ res
 -- a line starts so, and has one end
 pub record Starts (w : List ℕ) (x : Entry) : Type 0 where
   pub rest : List ℕ
-  pub plain : Every Plain (front x rest)
+  pub plain : Each Plain (front x rest)
   pub whole : w ≡ front x rest ++ (10 ∷ [])
 
 line-starts : (level field : ℕ) (name type : List ℕ) (d : Bool) → Starts (line level field name type d) (record { field = field; level = level })
@@ -74,7 +76,7 @@ line-starts level field name type d =
     = ap shown parts
     ∙ kept-front (replicate (2 * level) 32) (decimal field ++ (32 ∷ rest)) (spaces-plain (2 * level))
     ∙ ap (λ (r : List ℕ). replicate (2 * level) 32 ++ r) (kept-front (decimal field) (32 ∷ rest) (digits-plain field)) in
-    record { rest = shown rest; plain = subst (Every Plain) same (shown-plain whole); whole = ap (λ (r : List ℕ). r ++ (10 ∷ [])) same }
+    record { rest = shown rest; plain = subst (Each Plain) same (shown-plain whole); whole = ap (λ (r : List ℕ). r ++ (10 ∷ [])) same }
 
 pub entry-starts : (e : List ℕ) (row : ℕ → FieldRow) (d : ℕ → Bool) (x : Entry) → Starts (entryLine e row d x) x
 unfolding entryLine
@@ -82,15 +84,15 @@ entry-starts e row d x = line-starts (x .level) (x .field) _ _ _
 
 -- bytes that print, and a line's end
 
-ended-once : (l : List ℕ) → Every Plain l → times 10 (l ++ (10 ∷ [])) ≡ 1
+ended-once : (l : List ℕ) → Each Plain l → times 10 (l ++ (10 ∷ [])) ≡ 1
 unfolding times
-ended-once l w = let r = times-never 10 l (every-map (λ b p e. let m = p .0 in omega arith) l w) in times-append 10 l (10 ∷ []) ∙ rw r
+ended-once l w = let r = times-never 10 l (each-weaken (λ b p e. let m = p .0 in omega arith) l w) in times-append 10 l (10 ∷ []) ∙ rw r
 
 abbrev Byte : ℕ → Type 0
 Byte b = (b ≡ 10) ⊎ Plain b
 
-ended-plain : (l : List ℕ) → Every Plain l → Every Byte (l ++ (10 ∷ []))
-ended-plain l w = every-append Byte l (10 ∷ []) (every-map {such = Plain} {other = Byte} (λ b p. inr p) l w) (inl refl, tt)
+ended-plain : (l : List ℕ) → Each Plain l → Each Byte (l ++ (10 ∷ []))
+ended-plain l w = each-append Byte l (10 ∷ []) (each-weaken {P = Plain} {Q = Byte} (λ b p. inr p) l w) (inl refl, tt)
 
 module _ {A : Type 0} (w : A → List ℕ) where
   flat-times : (f : ℕ) → ((x : A) → times f (w x) ≡ 1) → (l : List A) → times f (flat w l) ≡ length l
@@ -98,17 +100,17 @@ module _ {A : Type 0} (w : A → List ℕ) where
   flat-times f h [] = refl
   flat-times f h (x ∷ l) = let r = flat-times f h l in let s = h x in times-append f (w x) (flat w l) ∙ omega arith
 
-  every-flat : (such : ℕ → Type 0) → ((x : A) → Every such (w x)) → (l : List A) → Every such (flat w l)
+  each-in-flat : (such : ℕ → Type 0) → ((x : A) → Each such (w x)) → (l : List A) → Each such (flat w l)
   unfolding flat
-  every-flat such h [] = tt
-  every-flat such h (x ∷ l) = every-append such (w x) (flat w l) (h x) (every-flat such h l)
+  each-in-flat such h [] = tt
+  each-in-flat such h (x ∷ l) = each-append such (w x) (flat w l) (h x) (each-in-flat such h l)
 
 -- lines that are the same for each field
 pub lines-same : (w v : Entry → List ℕ) (parents : List ℕ) → ((x : Entry) → x .field < length parents → w x ≡ v x) → flat w (order parents) ≡ flat v (order parents)
 unfolding flat
 lines-same w v parents e = go (order parents) (order-within parents)
   where
-    go : (l : List Entry) → Every (λ k. k < length parents) (fieldsIn l) → flat w l ≡ flat v l
+    go : (l : List Entry) → Each (λ k. k < length parents) (fieldsIn l) → flat w l ≡ flat v l
     go [] all = refl
     go (x ∷ l) all = λ i. e x (all .0) i ++ go l (all .1) i
 
@@ -125,5 +127,5 @@ pub printable : Printable
 unfolding listing
 printable e l =
     let starts = entry-starts e (rowIn l) (darkIn l) in
-    every-flat (entryLine e (rowIn l) (darkIn l)) Byte (λ x. rw (starts x .whole) (ended-plain (front x (starts x .rest)) (starts x .plain)))
+    each-in-flat (entryLine e (rowIn l) (darkIn l)) Byte (λ x. rw (starts x .whole) (ended-plain (front x (starts x .rest)) (starts x .plain)))
     (order (parentsOf (l .fields)))

@@ -13,8 +13,10 @@ use Rattle.numbers.specs.Choice.{pick}
 use Rattle.numbers.proofs.Choice.{which}
 use Rattle.chain_moves.specs.Distances.{sumBelow}
 use Rattle.listing.specs.Order.{Entry, joined, below, branch}
-use Rattle.listing.specs.Listed.{fieldsIn, times, Every, numbersBelow, childrenIn}
-use Rattle.listing.proofs.TimesLaws.{every-joined, every-map, sum-constant, times-joined, times-none, times-numbers, times-length, times-never}
+use Rattle.listing.specs.Listed.{fieldsIn, times, numbersBelow, childrenIn}
+use Rattle.numbers.specs.Lists.{Each}
+use Rattle.numbers.proofs.Lists.{each-weaken}
+use Rattle.listing.proofs.TimesLaws.{each-joined, sum-constant, times-joined, times-none, times-numbers, times-length, times-never}
 use Rattle.listing.proofs.OrderLaws.{joined-each, joined-same, joined-skip}
 
 -- the fields that hang on one
@@ -73,14 +75,14 @@ fields-listed up n (suc left) level t =
     ∙ joined-same (λ k. fieldsIn (branch up n left level t k)) (λ k. pick (eqb (up k) t) (k ∷ listed up n left k) []) n
     (λ k l. ⊎-elim (λ s. rw s (ap (λ (r : List ℕ). k ∷ r) (fields-listed up n left (suc level) k))) (λ s. rw s) (which (eqb (up k) t)))
 
-listed-below : (up : ℕ → ℕ) (n left t : ℕ) → Every (λ x. x < n) (listed up n left t)
+listed-below : (up : ℕ → ℕ) (n left t : ℕ) → Each (λ x. x < n) (listed up n left t)
 unfolding listed
 listed-below up n zero t = tt
 listed-below up n (suc left) t =
-    every-joined (λ x. x < n) (λ k. pick (eqb (up k) t) (k ∷ listed up n left k) []) n
+    each-joined (λ x. x < n) (λ k. pick (eqb (up k) t) (k ∷ listed up n left k) []) n
     (λ k l. ⊎-elim (λ s. rw s (l, listed-below up n left k)) (λ s. rw s tt) (which (eqb (up k) t)))
 
-pub below-within : (up : ℕ → ℕ) (n left level t : ℕ) → Every (λ x. x < n) (fieldsIn (below up n left level t))
+pub below-within : (up : ℕ → ℕ) (n left level t : ℕ) → Each (λ x. x < n) (fieldsIn (below up n left level t))
 below-within up n left level t = rw (fields-listed up n left level t) (listed-below up n left t)
 
 -- the fields below n hang on one another or on n, and each has a rank one above that of what it hangs on
@@ -207,7 +209,7 @@ module _ {up : ℕ → ℕ} {n : ℕ} {rank : ℕ → ℕ} (its : Ranked up n ra
   once : (f : ℕ) → times f (listed up n n n) ≡ pick (ltb f n) 1 0
   once f =
       ⊎-elim (λ t. once-by f (children-rise (up f) (its .inside f (ltb-true f n t))))
-      (λ t. rw t (times-never f (listed up n n n) (every-map (λ x l e. omega (arith, ltb-false f n t)) (listed up n n n) (listed-below up n n n))))
+      (λ t. rw t (times-never f (listed up n n n) (each-weaken (λ x l e. omega (arith, ltb-false f n t)) (listed up n n n) (listed-below up n n n))))
       (which (ltb f n))
 
   pub below-once : (f : ℕ) → times f (fieldsIn (below up n n 0 n)) ≡ pick (ltb f n) 1 0

@@ -1,9 +1,9 @@
 -- The rank of a field: one more than its moves to the top. Where every chain ends, each field is listed once, with its children rising.
-use Prim.Native.Nat.{ℕ, zero, suc, _-_, _≤_, _<_}
+use Prim.Native.Nat.{ℕ, suc, _-_, _≤_, _<_}
 use mathlib.Core.Path.{_≡_, refl, sym, ap, subst, _∙_}
 use mathlib.Core.Logic.{⊎-elim}
 use mathlib.Core.Bool.{true}
-use mathlib.Core.List.{List, [], _∷_}
+use mathlib.Core.List.{List}
 use native.Mathlib.Omega.{arith}
 use borrow.Author.Tests.{eq-eqb, ne-eqb}
 use lib.Dec.{eqb, ltb}
@@ -17,8 +17,9 @@ use Rattle.parents.proofs.EndlessLaws.{reach-each}
 use Rattle.chain_moves.specs.Moves.{moves}
 use Rattle.chain_moves.specs.Distances.{Rooted}
 use Rattle.chain_moves.proofs.MovesLaws.{moves-top, moves-up, moves-le, moves-settled}
-use Rattle.listing.specs.Order.{Entry, holder, order}
-use Rattle.listing.specs.Listed.{fieldsIn, times, Every, numbersBelow, childrenIn}
+use Rattle.listing.specs.Order.{holder, order}
+use Rattle.listing.specs.Listed.{fieldsIn, times, numbersBelow, childrenIn}
+use Rattle.numbers.specs.Lists.{Each}
 use Rattle.listing.proofs.ListedLaws.{Ranked, below-once, below-length, below-within, below-children}
 
 -- the number that is no field's, on which the top-level fields hang, has rank 0
@@ -90,14 +91,6 @@ module _ (parents : List ℕ) where
     children-listed = below-children ranked
 
   -- every entry is a field's
-  pub order-within : Every (λ x. x < length parents) (fieldsIn (order parents))
+  pub order-within : Each (λ x. x < length parents) (fieldsIn (order parents))
   unfolding order
   order-within = below-within (holder parents) (length parents) (length parents) 0 (length parents)
-
-  pub entry-within : (i : ℕ) (other : Entry) → i < length (order parents) → getD (order parents) i other .field < length parents
-  entry-within i other = each (order parents) order-within i
-    where
-      each : (l : List Entry) → Every (λ x. x < length parents) (fieldsIn l) → (i : ℕ) → i < length l → getD l i other .field < length parents
-      each [] w i h = absurd (omega arith)
-      each (x ∷ l) w zero h = w .0
-      each (x ∷ l) w (suc i) h = each l (w .1) i (omega arith)

@@ -9,16 +9,16 @@ use Rattle.decimals.specs.Decimal.{decimal}
 use Rattle.header.specs.Tables.{parentsOf}
 use Rattle.moves.proofs.Laws.{header-rooted}
 use Rattle.listing.specs.Order.{Entry, order}
-use Rattle.listing.specs.Listed.{Every}
+use Rattle.numbers.specs.Lists.{Each}
+use Rattle.numbers.proofs.Lists.{each-weaken}
 use Rattle.listing.specs.Lines.{entryLine, rowIn, darkIn, listing}
 use Rattle.listing.specs.Statements.{ListingTells}
-use Rattle.listing.proofs.TimesLaws.{every-map}
 use Rattle.listing.proofs.DigitLaws.{decimal-some, decimal-digits, decimal-same}
 use Rattle.listing.proofs.LineLaws.{front, Starts, entry-starts}
 use Rattle.listing.proofs.TellingLaws.{order-tells}
 
 -- two lists of bytes in front of a byte that is in neither
-split : (sep : ℕ) (a a′ b b′ : List ℕ) → Every (λ x. x ≡ sep → ⊥) a → Every (λ x. x ≡ sep → ⊥) a′ → a ++ (sep ∷ b) ≡ a′ ++ (sep ∷ b′) → (a ≡ a′) × (b ≡ b′)
+split : (sep : ℕ) (a a′ b b′ : List ℕ) → Each (λ x. x ≡ sep → ⊥) a → Each (λ x. x ≡ sep → ⊥) a′ → a ++ (sep ∷ b) ≡ a′ ++ (sep ∷ b′) → (a ≡ a′) × (b ≡ b′)
 split sep [] [] b b′ u v e = (refl, (cc))
 split sep [] (x ∷ a′) b b′ u v e = absurd (v .0 (cc))
 split sep (x ∷ a) [] b b′ u v e = absurd (u .0 (cc))
@@ -29,7 +29,7 @@ split sep (x ∷ a) (x′ ∷ a′) b b′ u v e =
     (λ i. here i ∷ r .0 i, r .1)
 
 -- two runs of one byte in front of others
-runs : (k j j′ : ℕ) (d d′ b b′ : List ℕ) → 1 ≤ length d → 1 ≤ length d′ → Every (λ x. x ≡ k → ⊥) d → Every (λ x. x ≡ k → ⊥) d′
+runs : (k j j′ : ℕ) (d d′ b b′ : List ℕ) → 1 ≤ length d → 1 ≤ length d′ → Each (λ x. x ≡ k → ⊥) d → Each (λ x. x ≡ k → ⊥) d′
     → replicate j k ++ (d ++ b) ≡ replicate j′ k ++ (d′ ++ b′) → (j ≡ j′) × (d ++ b ≡ d′ ++ b′)
 runs k j j′ [] d′ b b′ l m u v e = absurd (omega arith)
 runs k j j′ (x ∷ d) [] b b′ l m u v e = absurd (omega arith)
@@ -43,7 +43,7 @@ runs k (suc j) (suc j′) (x ∷ d) (x′ ∷ d′) b b′ l m u v e =
 
 front-same : (x x′ : Entry) (r r′ : List ℕ) → front x r ≡ front x′ r′ → x ≡ x′
 front-same x x′ r r′ e =
-    let digits : (n : ℕ) → Every (λ b. b ≡ 32 → ⊥) (decimal n) = λ n. every-map (λ b w e. let l = w .0 in omega arith) (decimal n) (decimal-digits n n (omega arith)) in
+    let digits : (n : ℕ) → Each (λ b. b ≡ 32 → ⊥) (decimal n) = λ n. each-weaken (λ b w e. let l = w .0 in omega arith) (decimal n) (decimal-digits n n (omega arith)) in
     let f = x .field in
     let g = x′ .field in
     let a = runs 32 (2 * x .level) (2 * x′ .level) (decimal f) (decimal g) (32 ∷ r) (32 ∷ r′) (decimal-some f f) (decimal-some g g) (digits f) (digits g) e in
@@ -65,8 +65,8 @@ module _ {w : List ℕ} {x : Entry} (s : Starts w x) (after : List ℕ) where
   first : w ++ after ≡ front x (s .rest) ++ (10 ∷ after)
   first = ap (λ (r : List ℕ). r ++ after) (s .whole) ∙ append-assoc (front x (s .rest)) (10 ∷ []) after
 
-  unended : Every (λ b. b ≡ 10 → ⊥) (front x (s .rest))
-  unended = every-map (λ b p e. let l = p .0 in omega arith) (front x (s .rest)) (s .plain)
+  unended : Each (λ b. b ≡ 10 → ⊥) (front x (s .rest))
+  unended = each-weaken (λ b p e. let l = p .0 in omega arith) (front x (s .rest)) (s .plain)
 
 -- so lines tell their fields and levels
 lines-tell : (w w′ : Entry → List ℕ) → ((x : Entry) → Starts (w x) x) → ((x : Entry) → Starts (w′ x) x) → (l l′ : List Entry) → flat w l ≡ flat w′ l′ → l ≡ l′

@@ -13,9 +13,10 @@ use Rattle.chain_moves.specs.Distances.{Rooted}
 use Rattle.header.specs.Tables.{parentsOf}
 use Rattle.moves.proofs.Laws.{field-count, header-rooted}
 use Rattle.listing.specs.Order.{Entry, below, branch, holder, order}
-use Rattle.listing.specs.Listed.{fieldsIn, Every, numbersBelow, childrenIn}
+use Rattle.listing.specs.Listed.{fieldsIn, numbersBelow, childrenIn}
+use Rattle.numbers.specs.Lists.{Each}
 use Rattle.listing.specs.Statements.{OnceEach, EachOnce, LevelsAreMoves, SiblingsRise}
-use Rattle.listing.proofs.TimesLaws.{every-joined}
+use Rattle.listing.proofs.TimesLaws.{each-joined}
 use Rattle.listing.proofs.ListedLaws.{Ranked, child-rank}
 use Rattle.listing.proofs.RankLaws.{rank, rank-field, ranked, listed-once, as-many, children-listed}
 
@@ -32,11 +33,11 @@ once-each parents rooted =
 -- what hangs on a field of rank r is at level r
 levels-below : (parents : List ℕ) → Ranked (holder parents) (length parents) (rank parents)
     → (left level g : ℕ) → level ≡ rank parents g
-    → Every (λ x. x .level ≡ moves parents (length parents) (x .field)) (below (holder parents) (length parents) left level g)
+    → Each (λ x. x .level ≡ moves parents (length parents) (x .field)) (below (holder parents) (length parents) left level g)
 unfolding below
 levels-below parents its zero level g e = tt
 levels-below parents its (suc left) level g e =
-    every-joined (λ x. x .level ≡ moves parents (length parents) (x .field)) (branch (holder parents) (length parents) left level g) (length parents)
+    each-joined (λ x. x .level ≡ moves parents (length parents) (x .field)) (branch (holder parents) (length parents) left level g) (length parents)
     (λ k l.
     ⊎-elim
     (λ t.
@@ -46,7 +47,7 @@ levels-below parents its (suc left) level g e =
     (λ t. rw t tt)
     (which (eqb (holder parents k) g)))
 
-pub order-levels : (parents : List ℕ) → Rooted parents → Every (λ x. x .level ≡ moves parents (length parents) (x .field)) (order parents)
+pub order-levels : (parents : List ℕ) → Rooted parents → Each (λ x. x .level ≡ moves parents (length parents) (x .field)) (order parents)
 unfolding order
 order-levels parents rooted = let its = ranked parents rooted in levels-below parents its (length parents) 0 (length parents) (sym (its .root))
 
@@ -58,7 +59,7 @@ each-once e h p w = rw field-count at (once-each (parentsOf (h .lists .fields)) 
 pub levels-are-moves : LevelsAreMoves
 levels-are-moves e h p w =
     let parents = parentsOf (h .lists .fields) in
-    subst (λ (n : ℕ). Every (λ x. x .level ≡ moves parents n (x .field)) (order parents)) (field-count (h .lists .fields)) (order-levels parents (header-rooted e w))
+    subst (λ (n : ℕ). Each (λ x. x .level ≡ moves parents n (x .field)) (order parents)) (field-count (h .lists .fields)) (order-levels parents (header-rooted e w))
 
 pub siblings-rise : SiblingsRise
 siblings-rise e h p w g l =

@@ -14,22 +14,23 @@ use Rattle.numbers.proofs.Choice.{which}
 use Rattle.parents.specs.Parents.{topLevel}
 use Rattle.chain_moves.specs.Distances.{Rooted}
 use Rattle.listing.specs.Order.{Entry, holder, order}
-use Rattle.listing.specs.Listed.{fieldsIn, times, Every}
+use Rattle.listing.specs.Listed.{fieldsIn, times}
+use Rattle.numbers.specs.Lists.{Each}
 use Rattle.listing.specs.Statements.{openAbove, Nested}
 use Rattle.listing.proofs.NestedLaws.{parents-shown}
 use Rattle.listing.proofs.RankLaws.{as-many}
 use Rattle.listing.proofs.Statements.{once-each}
 
-nested-same : (up up′ : ℕ → ℕ) (root : ℕ) (path : List ℕ) (l : List Entry) → Nested up root path l → Nested up′ root path l → Every (λ x. up (x .field) ≡ up′ (x .field)) l
+nested-same : (up up′ : ℕ → ℕ) (root : ℕ) (path : List ℕ) (l : List Entry) → Nested up root path l → Nested up′ root path l → Each (λ x. up (x .field) ≡ up′ (x .field)) l
 nested-same up up′ root path [] a b = tt
 nested-same up up′ root path (x ∷ l) a b = (a .1 ∙ sym (b .1), nested-same up up′ root (x .field ∷ openAbove (x .level) path) l (a .2) (b .2))
 
 -- what holds of each field that is listed holds of one that is listed at all
-every-listed : (such : ℕ → Type 0) (f : ℕ) (l : List Entry) → Every (λ x. such (x .field)) l → 1 ≤ times f (fieldsIn l) → such f
+each-listed : (such : ℕ → Type 0) (f : ℕ) (l : List Entry) → Each (λ x. such (x .field)) l → 1 ≤ times f (fieldsIn l) → such f
 unfolding times
-every-listed such f [] w h = absurd (omega arith)
-every-listed such f (x ∷ l) w h =
-    ⊎-elim (λ t. subst such (eqb-true (x .field) f t) (w .0)) (λ t. every-listed such f l (w .1) (let r = rw t at h in omega arith)) (which (eqb (x .field) f))
+each-listed such f [] w h = absurd (omega arith)
+each-listed such f (x ∷ l) w h =
+    ⊎-elim (λ t. subst such (eqb-true (x .field) f t) (w .0)) (λ t. each-listed such f l (w .1) (let r = rw t at h in omega arith)) (which (eqb (x .field) f))
 
 -- what a field hangs on tells its parent
 holder-tells : (a b : List ℕ) → length a ≡ length b → Rooted a → Rooted b → (f : ℕ) → f < length a → holder a f ≡ holder b f → getD a f 0 ≡ getD b f 0
@@ -50,4 +51,4 @@ order-tells a b ra rb e =
     ext-getD 0 a b same
     (λ f l.
     holder-tells a b same ra rb f l
-    (every-listed (λ (x : ℕ). holder a x ≡ holder b x) f (order a) each (let o = once-each a ra .below f l in omega arith)))
+    (each-listed (λ (x : ℕ). holder a x ≡ holder b x) f (order a) each (let o = once-each a ra .below f l in omega arith)))

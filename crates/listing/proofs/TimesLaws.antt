@@ -12,22 +12,14 @@ use Rattle.numbers.specs.Choice.{pick}
 use Rattle.numbers.proofs.Choice.{which}
 use Rattle.chain_moves.specs.Distances.{sumBelow}
 use Rattle.listing.specs.Order.{joined}
-use Rattle.listing.specs.Listed.{times, Every, numbersBelow}
+use Rattle.listing.specs.Listed.{times, numbersBelow}
+use Rattle.numbers.specs.Lists.{Each}
+use Rattle.numbers.proofs.Lists.{each-append}
 use Rattle.listing.proofs.OrderLaws.{joined-all}
 
--- each thing of a list
-
-module _ {A : Type 0} (such : A → Type 0) where
-  pub every-append : (xs ys : List A) → Every such xs → Every such ys → Every such (xs ++ ys)
-  every-append [] ys a b = b
-  every-append (x ∷ xs) ys a b = (a .0, every-append xs ys (a .1) b)
-
-  pub every-joined : (g : ℕ → List A) (m : ℕ) → ((k : ℕ) → k < m → Every such (g k)) → Every such (joined g m)
-  every-joined = joined-all (Every such) tt every-append
-
-pub every-map : {A : Type 0} {such other : A → Type 0} → ((x : A) → such x → other x) → (l : List A) → Every such l → Every other l
-every-map f [] w = tt
-every-map f (x ∷ l) w = (f x (w .0), every-map f l (w .1))
+-- each thing of what is joined
+pub each-joined : {A : Type 0} (such : A → Type 0) (g : ℕ → List A) (m : ℕ) → ((k : ℕ) → k < m → Each such (g k)) → Each such (joined g m)
+each-joined such = joined-all (Each such) tt (each-append such)
 
 -- sums
 
@@ -83,7 +75,7 @@ unfolding times
 times-numbers f n = times-joined f (λ k. k ∷ []) n ∙ ap (λ (t : ℕ → ℕ). sumBelow t n) (λ i k. add-zero (pick (eqb k f) 1 0) i) ∙ sum-one f n
 
 -- a list of numbers below n is as long as all of them are often in it
-pub times-length : (n : ℕ) (l : List ℕ) → Every (λ x. x < n) l → sumBelow (λ f. times f l) n ≡ length l
+pub times-length : (n : ℕ) (l : List ℕ) → Each (λ x. x < n) l → sumBelow (λ f. times f l) n ≡ length l
 unfolding times
 times-length n [] w = sum-constant 0 (λ _. 0) n (λ _ _. refl) ∙ omega arith
 times-length n (x ∷ l) w =
@@ -93,7 +85,7 @@ times-length n (x ∷ l) w =
     sum-add (λ f. pick (eqb x f) 1 0) (λ f. times f l) n ∙ omega arith
 
 -- a number that no number of a list is
-pub times-never : (f : ℕ) (l : List ℕ) → Every (λ x. x ≡ f → ⊥) l → times f l ≡ 0
+pub times-never : (f : ℕ) (l : List ℕ) → Each (λ x. x ≡ f → ⊥) l → times f l ≡ 0
 unfolding times
 times-never f [] w = refl
 times-never f (x ∷ l) w = let r = times-never f l (w .1) in rw (ne-eqb x f (w .0)) (omega arith)

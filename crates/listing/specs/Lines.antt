@@ -1,6 +1,6 @@
 -- The bytes of a listing.
 use Prim.Native.Nat.{ℕ, _*_}
-use mathlib.Core.List.{List, [], _∷_, _++_, map}
+use mathlib.Core.List.{List, [], _++_, map}
 use mathlib.Core.Bool.{Bool}
 use lib.ListN.{getD, replicate}
 use lib.Dec.{eqb, ltb}

@@ -14,11 +14,6 @@ unfoldable pub times : ℕ → List ℕ → ℕ
 times f [] = 0
 times f (x ∷ rest) = pick (eqb x f) 1 0 + times f rest
 
--- each thing of a list is such
-abbrev pub Every : {A : Type 0} → (A → Type 0) → List A → Type 0
-Every such [] = Unit {0}
-Every such (x ∷ rest) = such x × Every such rest
-
 -- the numbers below n, rising
 abbrev pub numbersBelow : ℕ → List ℕ
 numbersBelow n = joined (λ k. k ∷ []) n

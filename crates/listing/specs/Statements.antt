@@ -7,13 +7,13 @@ use lib.ListN.{length, getD, drop}
 use Rattle.wire.specs.Reading.{found}
 use Rattle.chain_moves.specs.Moves.{moves}
 use Rattle.header.specs.Header.{Header, Lists}
-use Rattle.header.specs.Tables.{headerOf, parentsOf}
-use Rattle.header.specs.Tables.{Answered as HeaderAnswered}
+use Rattle.header.specs.Tables.{headerOf, parentsOf, Answered as HeaderAnswered}
 use Rattle.header.specs.declared.HeaderTables.{HeaderTables}
 use Rattle.header.specs.declared.HeaderAnswer.{HeaderAnswer}
 use Rattle.header.specs.declared.HeaderAnswer.the-variants.{Accepted as HeaderAccepted, Refused as HeaderRefused}
 use Rattle.listing.specs.Order.{Entry, holder, order}
-use Rattle.listing.specs.Listed.{fieldsIn, times, Every, numbersBelow, childrenIn}
+use Rattle.listing.specs.Listed.{fieldsIn, times, numbersBelow, childrenIn}
+use Rattle.numbers.specs.Lists.{Each}
 use Rattle.listing.specs.Lines.{shownByte, listing}
 use Rattle.listing.specs.Answers.{Answered}
 use Rattle.listing.specs.declared.ListAnswer.{ListAnswer}
@@ -35,7 +35,7 @@ EachOnce =
 abbrev pub LevelsAreMoves : Type 0
 LevelsAreMoves =
     (e : List ℕ) (h : Header) (p : ℕ) → headerOf e ≡ found h p
-    → Every (λ x. x .level ≡ moves (parentsOf (h .lists .fields)) (length (h .lists .fields)) (x .field)) (order (parentsOf (h .lists .fields)))
+    → Each (λ x. x .level ≡ moves (parentsOf (h .lists .fields)) (length (h .lists .fields)) (x .field)) (order (parentsOf (h .lists .fields)))
 
 -- what is left of a path, whose innermost field is in front, above a line of this level: its outermost fields, one for each level less deep
 abbrev pub openAbove : ℕ → List ℕ → List ℕ
@@ -67,7 +67,7 @@ OneLineEach = (e : List ℕ) (h : Header) (p : ℕ) → headerOf e ≡ found h p
 
 -- Every other byte of it is at least 32 and not 127: no name ends a line, or hides one.
 abbrev pub Printable : Type 0
-Printable = (e : List ℕ) (l : Lists) → Every (λ b. (b ≡ 10) ⊎ ((32 ≤ b) × (b ≡ 127 → ⊥))) (listing e l)
+Printable = (e : List ℕ) (l : Lists) → Each (λ b. (b ≡ 10) ⊎ ((32 ≤ b) × (b ≡ 127 → ⊥))) (listing e l)
 
 -- Such a byte of a name or a type's name stands as it is, also one of 128 and above.
 abbrev pub BytesKept : Type 0

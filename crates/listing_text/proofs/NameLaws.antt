@@ -130,3 +130,11 @@ or-named e (r ∷ rs) other each last (suc k) = or-named e rs other (each .1) la
 
 pub row-named : (e : List ℕ) {h : Header} {p : ℕ} → headerOf e ≡ found h p → (k : ℕ) → Named e (rowIn (h .lists) k .texts)
 row-named e {h} w = or-named e (h .lists .fields) (fieldOf []) (fields-named e w) (record { name = no-string e; typeName = no-string e })
+
+-- the characters of its name, and of its type's, are the bytes that stand there
+module _ (e : List ℕ) {h : Header} {p : ℕ} (w : headerOf e ≡ found h p) (k : ℕ) where
+  pub name-stands : let t = rowIn (h .lists) k .texts .name in characters e t ≡ take (t .len) (drop (t .place) e)
+  name-stands = read-whole e (rowIn (h .lists) k .texts .name) (row-named e w k .name) .bytes
+
+  pub type-stands : let t = rowIn (h .lists) k .texts .«type_name» in characters e t ≡ take (t .len) (drop (t .place) e)
+  type-stands = read-whole e (rowIn (h .lists) k .texts .«type_name») (row-named e w k .typeName) .bytes

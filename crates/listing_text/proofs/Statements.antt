@@ -7,6 +7,7 @@ use native.Mathlib.Omega.{arith}
 use lib.Dec.{leb}
 use lib.ListN.{length, take, drop, replicate}
 use lib.Seq.{take-at}
+use Rattle.numbers.proofs.Lists.{each-weaken}
 use Rattle.numbers.specs.Choice.{pick}
 use Rattle.numbers.specs.Rows.{over}
 use Rattle.decimals.specs.Decimal.{text, decimal}
@@ -19,7 +20,6 @@ use Rattle.listing.specs.Order.{order}
 use Rattle.listing.specs.Lines.{darkWord, line, entryLine, rowIn, darkIn, listing}
 use Rattle.listing.specs.Answers.{fitted, placed, answer, left}
 use Rattle.listing.specs.declared.ListAnswer.the-variants.{Listed, Refused}
-use Rattle.listing.proofs.TimesLaws.{every-map}
 use Rattle.listing.proofs.DigitLaws.{decimal-digits}
 use Rattle.listing_text.specs.Statements.{ListingIsText, ListingWellFormed, WrittenIsText}
 use Rattle.listing_text.proofs.TextLaws.{text-none, text-append, text-flat, text-one, text-ascii}
@@ -31,7 +31,7 @@ spaces-text zero = text-none
 spaces-text (suc k) = text-append (text-one 32 (omega arith)) (spaces-text k)
 
 decimal-text : (n : ℕ) → Text (decimal n)
-decimal-text n = text-ascii (decimal n) (every-map (λ b w. let l = w .1 in omega arith) (decimal n) (decimal-digits n n (omega arith)))
+decimal-text n = text-ascii (decimal n) (each-weaken (λ b w. let l = w .1 in omega arith) (decimal n) (decimal-digits n n (omega arith)))
 
 dark-text : (d : Bool) → Text (darkWord d)
 dark-text true = text-ascii (text " dark") (omega arith, (omega arith, (omega arith, (omega arith, (omega arith, tt)))))
