@@ -1,0 +1,16 @@
+-- How long the listing of an accepted header can be.
+use Prim.Native.Nat.{ℕ, _+_, _*_, _≤_}
+use mathlib.Core.List.{List}
+use mathlib.Core.Path.{_≡_}
+use lib.ListN.{length}
+use Rattle.wire.specs.Reading.{found}
+use Rattle.chain_moves.specs.Moves.{allMoves}
+use Rattle.header.specs.Header.{Header}
+use Rattle.header.specs.Tables.{headerOf, parentsOf}
+use Rattle.listing.specs.Lines.{listing}
+
+-- It has at most as many bytes as the envelope, and two more for each move from a field to its parent, over all fields.
+abbrev pub ListingLength : Type 0
+ListingLength =
+    (e : List ℕ) (h : Header) (p : ℕ) → headerOf e ≡ found h p
+    → length (listing e (h .lists)) ≤ length e + 2 * allMoves (parentsOf (h .lists .fields))
