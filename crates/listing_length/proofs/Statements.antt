@@ -1,21 +1,26 @@
 -- The listing of an accepted header has at most as many bytes as its envelope, and two more for each move.
 use Prim.Native.Nat.{ℕ, zero, suc, _+_, _*_, _≤_, _<_}
-use mathlib.Core.Path.{_≡_, refl}
+use mathlib.Core.Path.{_≡_, refl, sym, _∙_}
 use mathlib.Core.List.{List, [], _∷_}
 use native.Mathlib.Omega.{arith}
+use borrow.Author.Tests.{le-leb}
 use lib.ListN.{length, length-append}
 use Rattle.numbers.specs.Rows.{flat}
+use Rattle.wire.specs.Reading.{Step, found}
 use Rattle.chain_moves.specs.Moves.{moves, totalMoves, allMoves}
 use Rattle.chain_moves.specs.Distances.{sumBelow}
-use Rattle.header.specs.Tables.{parentsOf}
+use Rattle.header.specs.Header.{Header}
+use Rattle.header.specs.Tables.{headerOf, parentsOf}
 use Rattle.header.proofs.HeaderLaws.{fields-few}
-use Rattle.moves.proofs.Laws.{field-count, header-rooted}
+use Rattle.moves.proofs.Laws.{field-count, header-rooted, answer-sum}
 use Rattle.listing.specs.Order.{Entry, order}
 use Rattle.listing.specs.Listed.{fieldsIn, Every}
 use Rattle.listing.specs.Lines.{characters, entryLine, rowIn, darkIn, listing}
+use Rattle.listing.specs.Answers.{fitted, answer}
+use Rattle.listing.specs.declared.ListAnswer.the-variants.{Listed}
 use Rattle.listing.proofs.RankLaws.{order-within}
 use Rattle.listing.proofs.Statements.{order-levels}
-use Rattle.listing_length.specs.Statements.{ListingLength}
+use Rattle.listing_length.specs.Statements.{ListingLength, RoomEnough}
 use Rattle.listing_length.proofs.Sums.{sumOver, order-sum}
 use Rattle.listing_length.proofs.Records.{least, fields-inside}
 use Rattle.listing_length.proofs.Lines.{line-length, characters-length}
@@ -59,3 +64,14 @@ listing-length e h p w =
     let apart = moves-apart parents n (λ k. least (rowIn l k)) n in
     let inside = rw (← count) at (fields-inside e w) in
     omega arith
+
+listed-fits : (room : ℕ) (e : List ℕ) {x : Step Header} {h : Header} {p : ℕ} → x ≡ found h p → length (listing e (h .lists)) ≤ room
+    → answer room e x ≡ Listed (length (listing e (h .lists)))
+unfolding answer fitted
+listed-fits room e {h = h} reads fits = rw (reads, le-leb (length (listing e (h .lists))) room fits)
+
+pub room-enough : RoomEnough
+room-enough e out out′ total r counts call room =
+    let (h, p, reads, sum) = answer-sum (headerOf e) (sym (counts .answers)) in
+    let most = listing-length e h p reads in
+    (length (listing e (h .lists)), call .answers ∙ listed-fits (length out) e reads (omega arith))
