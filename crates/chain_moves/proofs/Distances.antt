@@ -53,7 +53,7 @@ module _ (parents : List ℕ) where
   sum-total n zero = refl
   sum-total n (suc m) = rw (sum-total n m)
 
-sum-same : (each other : ℕ → ℕ) (n : ℕ) → ((f : ℕ) → f < n → each f ≡ other f) → sumBelow each n ≡ sumBelow other n
+pub sum-same : (each other : ℕ → ℕ) (n : ℕ) → ((f : ℕ) → f < n → each f ≡ other f) → sumBelow each n ≡ sumBelow other n
 unfolding sumBelow
 sum-same each other zero e = refl
 sum-same each other (suc n) e = rw (sum-same each other n (λ f l. e f (omega arith)), e n (omega arith))

@@ -23,7 +23,7 @@ each-joined such = joined-all (Each such) tt (each-append such)
 
 -- sums
 
-sum-add : (a b : ℕ → ℕ) (m : ℕ) → sumBelow (λ f. a f + b f) m ≡ sumBelow a m + sumBelow b m
+pub sum-add : (a b : ℕ → ℕ) (m : ℕ) → sumBelow (λ f. a f + b f) m ≡ sumBelow a m + sumBelow b m
 unfolding sumBelow
 sum-add a b zero = refl
 sum-add a b (suc m) = let r = sum-add a b m in omega arith

@@ -14,7 +14,8 @@ use Rattle.header.specs.Tables.{headerOf, parentsOf}
 use Rattle.header.proofs.HeaderLaws.{fields-few}
 use Rattle.moves.proofs.Laws.{field-count, header-rooted, answer-sum}
 use Rattle.listing.specs.Order.{Entry, order}
-use Rattle.listing.specs.Listed.{fieldsIn, Every}
+use Rattle.numbers.specs.Lists.{Each}
+use Rattle.listing.specs.Listed.{fieldsIn}
 use Rattle.listing.specs.Lines.{characters, entryLine, rowIn, darkIn, listing}
 use Rattle.listing.specs.Answers.{fitted, answer}
 use Rattle.listing.specs.declared.ListAnswer.the-variants.{Listed}
@@ -27,7 +28,7 @@ use Rattle.listing_length.proofs.Lines.{line-length, characters-length}
 
 -- lines that are each no longer than a number for its field
 lines-length : (w : Entry → List ℕ) (most level : ℕ → ℕ) (n : ℕ) → ((x : Entry) → x .field < n → x .level ≡ level (x .field) → length (w x) ≤ most (x .field))
-    → (l : List Entry) → Every (λ k. k < n) (fieldsIn l) → Every (λ x. x .level ≡ level (x .field)) l → length (flat w l) ≤ sumOver most (fieldsIn l)
+    → (l : List Entry) → Each (λ k. k < n) (fieldsIn l) → Each (λ x. x .level ≡ level (x .field)) l → length (flat w l) ≤ sumOver most (fieldsIn l)
 unfolding flat sumOver
 lines-length w most level n each [] a b = omega arith
 lines-length w most level n each (x ∷ l) a b =

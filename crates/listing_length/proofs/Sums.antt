@@ -12,24 +12,16 @@ use Rattle.numbers.specs.Choice.{pick}
 use Rattle.numbers.proofs.Choice.{which}
 use Rattle.chain_moves.specs.Distances.{sumBelow, Rooted}
 use Rattle.listing.specs.Order.{order}
-use Rattle.listing.specs.Listed.{fieldsIn, times, Every}
-use Rattle.listing.proofs.TimesLaws.{sum-constant}
+use Rattle.numbers.specs.Lists.{Each}
+use Rattle.listing.specs.Listed.{fieldsIn, times}
+use Rattle.chain_moves.proofs.Distances.{sum-same}
+use Rattle.listing.proofs.TimesLaws.{sum-add, sum-constant}
 use Rattle.listing.proofs.RankLaws.{listed-once, order-within}
 
 -- the sum of a number for each field of a list
 unfoldable pub sumOver : (ℕ → ℕ) → List ℕ → ℕ
 sumOver each [] = 0
 sumOver each (x ∷ l) = each x + sumOver each l
-
-sum-same : (each other : ℕ → ℕ) (n : ℕ) → ((k : ℕ) → k < n → each k ≡ other k) → sumBelow each n ≡ sumBelow other n
-unfolding sumBelow
-sum-same each other zero e = refl
-sum-same each other (suc n) e = rw (sum-same each other n (λ k l. e k (omega arith)), e n (omega arith))
-
-sum-both : (whole each other : ℕ → ℕ) (n : ℕ) → ((k : ℕ) → whole k ≡ each k + other k) → sumBelow whole n ≡ sumBelow each n + sumBelow other n
-unfolding sumBelow
-sum-both whole each other zero e = refl
-sum-both whole each other (suc n) e = let r = sum-both whole each other n e in let s = e n in omega arith
 
 module _ (each : ℕ → ℕ) where
   -- of the numbers below n one is x, or none
@@ -52,13 +44,14 @@ module _ (each : ℕ → ℕ) where
         (which (eqb x n))
 
   -- each number counts as often as it is in the list
-  sum-times : (n : ℕ) (l : List ℕ) → Every (λ x. x < n) l → sumOver each l ≡ sumBelow (λ k. times k l * each k) n
+  sum-times : (n : ℕ) (l : List ℕ) → Each (λ x. x < n) l → sumOver each l ≡ sumBelow (λ k. times k l * each k) n
   unfolding sumOver times
   sum-times n [] w = sym (sum-constant 0 (λ k. 0 * each k) n (λ k _. omega arith) ∙ omega arith)
   sum-times n (x ∷ l) w =
       let r = sum-times n l (w .1) in
       let s = sum-at x n (w .0) in
-      let b = sum-both (λ k. (pick (eqb x k) 1 0 + times k l) * each k) (where-it-is x) (λ k. times k l * each k) n (λ k. add-mul (pick (eqb x k) 1 0) (times k l) (each k)) in
+      let b = sum-same (λ k. (pick (eqb x k) 1 0 + times k l) * each k) (λ k. where-it-is x k + times k l * each k) n (λ k _. add-mul (pick (eqb x k) 1 0) (times k l) (each k))
+      ∙ sum-add (where-it-is x) (λ k. times k l * each k) n in
       omega arith
 
   pub order-sum : (parents : List ℕ) → Rooted parents → sumOver each (fieldsIn (order parents)) ≡ sumBelow each (length parents)
