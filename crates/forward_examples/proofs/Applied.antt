@@ -1,4 +1,5 @@
--- Demand 3 applied to calls for the examples, in all its parts: its hypotheses can be met, and the calls that it speaks of are there.
+-- Demand 3 applied to calls for the examples, in all its parts: its hypotheses can be met, and the calls that it speaks of are there. The part for
+-- the call that lists fields is in AppliedListing.
 use Prim.Native.Nat.{ℕ}
 use mathlib.Core.List.{List, [], _∷_, _++_}
 use mathlib.Core.Path.{_≡_, refl, sym, subst}
@@ -19,6 +20,10 @@ use Rattle.header.specs.Tables.{headerOf, answer, written, Answered}
 use Rattle.header.specs.declared.HeaderTables.{HeaderTables}
 use Rattle.header.specs.declared.HeaderAnswer.the-variants.{Accepted}
 use Rattle.header.specs.Beside.{Beside}
+use Rattle.chain_moves.specs.Moves.{moves, totalMoves, allMoves}
+use Rattle.moves.specs.Moves.{answer as moves-answer, Answered as AnsweredMoves}
+use Rattle.moves.specs.declared.MovesAnswer.{MovesAnswer}
+use Rattle.moves.specs.declared.MovesAnswer.the-variants.{Moves}
 use Rattle.footer.specs.Tables.{footerBeside, answer as footer-answer, written as footer-written, Answered as AnsweredFooter}
 use Rattle.footer.specs.declared.FooterAnswer.{FooterAnswer}
 use Rattle.footer.specs.declared.FooterAnswer.the-variants.{Accepted as AcceptedFooter}
@@ -37,9 +42,10 @@ use Rattle.tree.proofs.Place.{bytes-tested}
 use Rattle.forward_examples.specs.Example.{textsAt, plainHeader, newerHeader, appendedFields, appendedColumns, appendedHeader, listChecksum, plainFooter, newerFooter, plainPageList, newerPageList, plainRead}
 use Rattle.forward.specs.SameTables.{SameAnswer}
 use Rattle.forward.specs.HeaderForward.{HeaderKept, TheHeader, ChosenHeader}
-use Rattle.forward.specs.HeaderAppend.{KeepsRows, Appends, AppendKept}
+use Rattle.forward.specs.HeaderAppend.{appended, Appendix, KeepsRows, Appends, AppendKept}
 use Rattle.forward.specs.ReadersForward.{raised, withChecksums, FooterKept, ChosenFooter, ThePageList, PageListKept, ChosenPageList}
 use Rattle.forward.specs.PairingForward.{putRight, PairingKept}
+use Rattle.forward.specs.MovesForward.{MovesKept}
 use Rattle.forward.proofs.Demand3.{demand-3}
 use Rattle.forward_examples.proofs.Extensible.{extensible, appendable}
 
@@ -113,7 +119,7 @@ plain-page-list-right =
 
 -- their bytes
 
-plain-bytes : Bytes (renderHeader plainHeader)
+pub plain-bytes : Bytes (renderHeader plainHeader)
 unfolding sealed unsummed payloadShape textsShape listsShape featureWords spelled fieldShape headShape stringsShape columnShape aliasShape crc32 fold byte bits shifted
 plain-bytes = bytes-tested (renderHeader plainHeader) refl
 
@@ -177,8 +183,12 @@ unfolding answer written fieldWords columnWords aliasWords flat flatBy dark know
 appended-call = rw (appendable .appendedReads) (record { answers = refl; reports = refl; reportsTexts = refl; fieldsAre = refl; columnsAre = refl; aliasesAre = refl })
 
 -- the header that these calls speak of is the example, which may be extended
-chosen-header : (h : TheHeader (renderHeader plainHeader)) → ChosenHeader (h .tree) newerHeader
-chosen-header h = subst (λ (t : HeaderTree). ChosenHeader t newerHeader) (h .only plainHeader plain-right refl) (extensible .header)
+
+pub the-plain : (h : TheHeader (renderHeader plainHeader)) → plainHeader ≡ h .tree
+the-plain h = h .only plainHeader plain-right refl
+
+pub chosen-header : (h : TheHeader (renderHeader plainHeader)) → ChosenHeader (h .tree) newerHeader
+chosen-header h = subst (λ (t : HeaderTree). ChosenHeader t newerHeader) (the-plain h) (extensible .header)
 
 -- added bytes: the newer header's call leaves tables that say the same
 
@@ -196,9 +206,33 @@ append-kept = demand-3 .append (renderHeader plainHeader) lent-fields (left-fiel
 
 pub appended-kept : KeepsRows (renderHeader plainHeader) (left-fields 67) left-columns left-aliases (counted 2 2) 1 1 (renderHeader appendedHeader) more-fields more-columns (0 ∷ 1 ∷ []) (Accepted (counted 3 3))
 appended-kept =
-    let tree = append-kept .header .only plainHeader plain-right refl in
-    let appends = subst (λ (t : HeaderTree). Appends (renderHeader plainHeader) (left-fields 67) left-columns left-aliases (counted 2 2) t) (sym tree) (append-kept .append) in
+    let appends = subst (λ (t : HeaderTree). Appends (renderHeader plainHeader) (left-fields 67) left-columns left-aliases (counted 2 2) t) (sym (the-plain (append-kept .header))) (append-kept .append) in
     appends appendedFields appendedColumns (appendable .appendix) (replicate 47 5) _ (replicate 12 5) _ (replicate 2 5) _ (Accepted (counted 3 3)) (omega arith) (omega arith) (omega arith) appended-call
+
+-- the moves: "b" is one below "a", and a call for any of the three headers counts this one
+
+plain-moves-call : AnsweredMoves (headerOf (renderHeader plainHeader)) (Moves 1)
+unfolding moves-answer allMoves totalMoves moves
+plain-moves-call = rw (extensible .headerReads) (record { answers = refl; reports = refl })
+
+pub newer-moves-call : AnsweredMoves (headerOf (renderHeader newerHeader)) (Moves 1)
+unfolding moves-answer allMoves totalMoves moves
+newer-moves-call = rw (extensible .newerHeaderReads) (record { answers = refl; reports = refl })
+
+pub appended-moves-call : AnsweredMoves (headerOf (renderHeader appendedHeader)) (Moves 1)
+unfolding moves-answer allMoves totalMoves moves
+appended-moves-call = rw (appendable .appendedReads) (record { answers = refl; reports = refl })
+
+moves-kept : MovesKept (renderHeader plainHeader) 1
+moves-kept = demand-3 .moves (renderHeader plainHeader) 1 plain-bytes plain-moves-call
+
+pub newer-moves-kept : (r : MovesAnswer) → AnsweredMoves (headerOf (renderHeader newerHeader)) r → r ≡ Moves 1
+newer-moves-kept = moves-kept .forward newerHeader (chosen-header (moves-kept .header)) (omega (arith, extensible .newerHeaderBytes))
+
+pub appended-moves-kept : (r : MovesAnswer) → AnsweredMoves (headerOf (renderHeader appendedHeader)) r → r ≡ Moves 1
+appended-moves-kept =
+    let appends = subst (λ (t : HeaderTree). Appendix t appendedFields appendedColumns → (r : MovesAnswer) → AnsweredMoves (headerOf (renderHeader (appended t appendedFields appendedColumns))) r → r ≡ Moves 1) (sym (the-plain (moves-kept .header))) (moves-kept .append appendedFields appendedColumns) in
+    appends (appendable .appendix)
 
 -- footers: there is a call for the newer header and the newer footer, and each gives the same answer and leaves the same tables, but for the checksum
 -- that the footer got
@@ -260,7 +294,7 @@ page-list-kept =
 -- the page list that these calls speak of is the example, which may be extended
 chosen-list : (h : TheHeader (renderHeader plainHeader)) (l : ThePageList 80 (bitsOf (tablesOf (h .tree) .columns)) (renderPageList plainPageList)) → ChosenPageList (l .tree) newerPageList
 chosen-list h l =
-    let right = subst (λ (t : HeaderTree). RightPageList 80 (bitsOf (tablesOf t .columns)) plainPageList) (h .only plainHeader plain-right refl) plain-page-list-right in
+    let right = subst (λ (t : HeaderTree). RightPageList 80 (bitsOf (tablesOf t .columns)) plainPageList) (the-plain h) plain-page-list-right in
     subst (λ (u : PageListTree). ChosenPageList u newerPageList) (l .only plainPageList right refl) (extensible .pageList)
 
 pub newer-page-list-kept : (p : List ℕ) (r : PageListAnswer) → AnsweredPages (pageListBeside (renderHeader newerHeader) (renderPageList newerPageList) 3 80) lent-pages p r

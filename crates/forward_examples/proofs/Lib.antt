@@ -3,3 +3,4 @@ pub mod Vectors
 pub mod Extensible
 pub mod Raised
 pub mod Applied
+pub mod AppliedListing

@@ -1,11 +1,12 @@
 -- Demand 3 is about something: a header, a footer and a page list, and the same from a newer writer, which added bytes at the end of every frame and
 -- of the payload, and to the footer the checksum of its page list; and the header with a field and a column appended. The checker computes what the
--- rules read in each, and what the first build's rules read.
+-- rules read in each, what the first build's rules read, and the listings of the headers.
 use Prim.Native.Nat.{ℕ, _+_}
 use mathlib.Core.List.{List, [], _∷_, _++_, map}
 use mathlib.Core.Bool.{true, false}
 use mathlib.Core.Path.{_≡_}
 use lib.ListN.{length}
+use Rattle.decimals.specs.Decimal.{text}
 use Rattle.wire.specs.Reading.{found, fault}
 use Rattle.wire.specs.declared.Kind.the-variants.{Envelope, Number}
 use Rattle.envelope.specs.Envelope.{checksumOf}
@@ -18,6 +19,7 @@ use Rattle.rows.specs.declared.PageRow.{PageRow}
 use Rattle.header.specs.Header.{Header}
 use Rattle.header.specs.Tables.{headerOf}
 use Rattle.header.specs.Beside.{read, refusal}
+use Rattle.listing.specs.Lines.{listing}
 use Rattle.footer.specs.Footer.{Footer, firstBuild}
 use Rattle.footer.specs.Tables.{besideByBuild, footerBeside}
 use Rattle.page_list.specs.Tables.{pageListBeside}
@@ -265,3 +267,18 @@ pub record Paired : Type 0 where
 pub record Appendable : Type 0 where
   pub appendix : Appendix plainHeader appendedFields appendedColumns
   pub appendedReads : headerOf (renderHeader appendedHeader) ≡ found appendedRead 217
+
+-- What is listed. Both fields are dark, as the column of an unknown type hangs on "b", below "a"; "c" is not. The name of each field's type is empty:
+-- two spaces stand before the word "dark", and one ends the last line.
+
+abbrev pub plainLines : List ℕ
+plainLines = text "0 a  dark\n  1 b  dark\n"
+
+abbrev pub moreLines : List ℕ
+moreLines = text "0 a  dark\n  1 b  dark\n2 c \n"
+
+-- the newer header, in which the names stand elsewhere, has the same listing; with the appended field there is one line more
+pub record Listable : Type 0 where
+  pub plain : listing (renderHeader plainHeader) (plainRead .lists) ≡ plainLines
+  pub newer : listing (renderHeader newerHeader) (newerRead .lists) ≡ plainLines
+  pub more : listing (renderHeader appendedHeader) (appendedRead .lists) ≡ moreLines
