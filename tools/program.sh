@@ -50,6 +50,11 @@ take_input() {
         [ ! -d "$1" ] || fail "$1: a directory"
         [ -r "$1" ] || fail "$1: not readable"
         exec <"$1" || fail "$1: not readable"
+    elif ! { : 3<&0; } 2>/dev/null; then
+        # the program would read from the pipe that it writes to
+        fail "standard input is closed"
+    elif [ -d /dev/stdin ]; then
+        fail "standard input: a directory"
     fi
 }
 
@@ -57,4 +62,9 @@ take_input() {
 run_program() {
     is_built || build </dev/null
     printed=$("$program") || fail "the program could not be run"
+}
+
+# Prints what the program printed, with the line end behind it.
+show_printed() {
+    printf '%s\n' "$printed" || fail "what the program printed could not be written"
 }
