@@ -5,6 +5,7 @@ use mathlib.Core.List.{List, [], append-nil}
 use native.Mathlib.Omega.{arith}
 use lib.ListN.{length, take}
 use Rattle.numbers.specs.Rows.{flat}
+use Rattle.rows.specs.Words.{mostFields}
 use Rattle.rows.specs.Tables.{firstRows}
 use Rattle.header_reader.proofs.FillLaws.{put-front, flat-wide, front}
 use Rattle.listing.specs.Order.{Entry, orderOf}
@@ -20,25 +21,25 @@ entries-of l =
     let many : length (flat entryWords l) / entryWidth ≡ length l = omega arith in
     ap (firstRows entryRow (flat entryWords l)) many ∙ (rw append-nil at (entries-back .all l []))
 
-module _ (parents : List ℕ) (n : ℕ) {old new : List ℕ} {count : ℕ} (long : length old ≡ 1024) (entered : Entered old 0 new count (orderOf parents n)) where
+module _ (parents : List ℕ) (n : ℕ) {old new : List ℕ} {count : ℕ} (long : length old ≡ entryWidth * mostFields) (entered : Entered old 0 new count (orderOf parents n)) where
   words-few : length (flat entryWords (orderOf parents n)) ≤ length old
   words-few = let few = order-of-few parents n in let wide = flat-wide entryWords entryWidth (λ _. refl) (orderOf parents n) in omega arith
 
   in-front : (take (entryWidth * count) new ≡ flat entryWords (orderOf parents n)) × (entryWidth * count ≤ length new)
   in-front = front entryWords entryWidth (λ _. refl) (orderOf parents n) old (omega (arith, entered .ends)) (entered .holds ∙ put-front old (flat entryWords (orderOf parents n)) words-few)
 
-  pub count-few : 2 * count ≤ 1024
+  pub count-few : entryWidth * count ≤ entryWidth * mostFields
   count-few = let few = order-of-few parents n in let e = entered .ends in omega arith
 
-  pub words-there : 2 * count ≤ length new
+  pub words-there : entryWidth * count ≤ length new
   words-there = in-front .1
 
-  pub words-long : 2 * count ≡ length (take (2 * count) new)
+  pub words-long : entryWidth * count ≡ length (take (entryWidth * count) new)
   words-long =
       let wide = flat-wide entryWords entryWidth (λ _. refl) (orderOf parents n) in
       let e = entered .ends in
       let same = ap length (in-front .0) in
       omega arith
 
-  pub entries-are : entriesIn (take (2 * count) new) ≡ orderOf parents n
+  pub entries-are : entriesIn (take (entryWidth * count) new) ≡ orderOf parents n
   entries-are = ap entriesIn (in-front .0) ∙ entries-of (orderOf parents n)

@@ -19,7 +19,7 @@ use Rattle.header.specs.Tables.{headerOf, parentsOf}
 use Rattle.header_payload.specs.Answers.{scanOf}
 use Rattle.header_payload.specs.declared.HeaderScan.{HeaderScan}
 use Rattle.header_reader.specs.Fits.{Scanned}
-use Rattle.header_reader.proofs.ReadLaws.{m, left as rows-left, is-found, fields-count, some-parents, few, mark-is}
+use Rattle.header_reader.proofs.ReadLaws.{the-header, rows-there, is-found, fields-count, some-parents, few-fields, mark-is}
 use Rattle.moves.proofs.Laws.{field-count, header-rooted}
 use Rattle.listing.specs.Order.{Entry, order, orderOf}
 use Rattle.listing.specs.Lines.{entryLine, rowIn, darkIn, marked, listing}
@@ -45,22 +45,22 @@ refused-answer e out w = answered e (rw w) (rw w)
 -- a header that a scan found, what it left in the arrays, and the dark marks of its fields
 module _ (e : List ℕ) {scan : HeaderScan} {q : ℕ} (w : found scan q ≡ mapped scanOf (headerOf e)) {p r c a : List ℕ} (k : Scanned (headerOf e) p r c a)
     (marks : List ℕ) (dark : (f : ℕ) → getD marks f 0 ≡ darkMark p (scan .lists .fields) (columnsIn c (scan .lists .columns)) f) where
-  row-is : (i : ℕ) → i < length (parentsOf (m e w k .value .lists .fields)) → fieldRow r i ≡ rowIn (m e w k .value .lists) i
+  row-is : (i : ℕ) → i < length (parentsOf (the-header e w k .value .lists .fields)) → fieldRow r i ≡ rowIn (the-header e w k .value .lists) i
   row-is i l =
-      let n = field-count (m e w k .value .lists .fields) in
-      ap (λ (t : List ℕ). fieldRow t i) (rows-left e w k .fieldsAre)
-      ∙ rw (← flat-is (fieldWords 0) 0 (m e w k .value .lists .fields)) (fields-back .each (λ _. 0) (m e w k .value .lists .fields) _ (fieldOf []) i (omega arith) .0)
+      let n = field-count (the-header e w k .value .lists .fields) in
+      ap (λ (t : List ℕ). fieldRow t i) (rows-there e w k .fieldsAre)
+      ∙ rw (← flat-is (fieldWords 0) 0 (the-header e w k .value .lists .fields)) (fields-back .each (λ _. 0) (the-header e w k .value .lists .fields) _ (fieldOf []) i (omega arith) .0)
 
-  mark-told : (i : ℕ) → marked marks i ≡ darkIn (m e w k .value .lists) i
-  mark-told i = ap (λ (n : ℕ). eqb n 1) (dark i ∙ mark-is e w k i) ∙ bit-back (darkIn (m e w k .value .lists) i)
+  mark-told : (i : ℕ) → marked marks i ≡ darkIn (the-header e w k .value .lists) i
+  mark-told i = ap (λ (n : ℕ). eqb n 1) (dark i ∙ mark-is e w k i) ∙ bit-back (darkIn (the-header e w k .value .lists) i)
 
-  order-is : orderOf p (scan .lists .fields) ≡ order (parentsOf (m e w k .value .lists .fields))
+  order-is : orderOf p (scan .lists .fields) ≡ order (parentsOf (the-header e w k .value .lists .fields))
   order-is =
-      order-front p (scan .lists .fields) (parentsOf (m e w k .value .lists .fields)) (few e w k) (some-parents e w k) (field-count (m e w k .value .lists .fields) ∙ sym (fields-count e w k)) (header-rooted e (is-found e w k))
+      order-front p (scan .lists .fields) (parentsOf (the-header e w k .value .lists .fields)) (few-fields e w k) (some-parents e w k) (field-count (the-header e w k .value .lists .fields) ∙ sym (fields-count e w k)) (header-rooted e (is-found e w k))
 
-  listing-is : flat (entryLine e (fieldRow r) (marked marks)) (orderOf p (scan .lists .fields)) ≡ listing e (m e w k .value .lists)
+  listing-is : flat (entryLine e (fieldRow r) (marked marks)) (orderOf p (scan .lists .fields)) ≡ listing e (the-header e w k .value .lists)
   unfolding listing
-  listing-is = ap (flat (entryLine e (fieldRow r) (marked marks))) order-is ∙ lines-same _ _ (parentsOf (m e w k .value .lists .fields)) (line-same e row-is mark-told)
+  listing-is = ap (flat (entryLine e (fieldRow r) (marked marks))) order-is ∙ lines-same _ _ (parentsOf (the-header e w k .value .lists .fields)) (line-same e row-is mark-told)
 
   pub listed-answer : {out out′ : List ℕ} {x : ListAnswer} → x ≡ fitted (length out) (flat (entryLine e (fieldRow r) (marked marks)) (orderOf p (scan .lists .fields)))
       → out′ ≡ placed out (flat (entryLine e (fieldRow r) (marked marks)) (orderOf p (scan .lists .fields))) → Answered e out out′ x

@@ -5,14 +5,13 @@ use mathlib.Core.Bool.{true}
 use mathlib.Core.List.{List}
 use native.Mathlib.Omega.{arith}
 use lib.ListN.{length, take}
-use lib.Seq.{getD-take, length-take-le}
 use Rattle.rows.specs.declared.FieldNumber.{FieldNumber}
 use Rattle.parents.specs.declared.Chains.{Chains}
 use Rattle.parents.specs.declared.Chains.the-variants.{AllEnd, Endless}
 use Rattle.parents.specs.Parents.{inside, endless, chainsOf}
-use Rattle.parents.proofs.InsideLaws.{inside-few, inside-is}
-use Rattle.parents.proofs.EndlessLaws.{all-reach-iff}
-use Rattle.chain_moves.specs.Distances.{Rooted}
+use Rattle.parents.proofs.InsideLaws.{inside-few}
+use Rattle.rows.specs.Words.{mostFields}
+use Rattle.listing.specs.Entries.{entryWidth}
 use Rattle.listing.specs.Order.{holder, below, order, orderWhere}
 use Rattle.listing.proofs.OrderLaws.{below-same}
 use Rattle.listing.proofs.Front.{front-long, front-few}
@@ -50,8 +49,8 @@ module _ (parents : List ℕ) (n : ℕ) (fine : inside parents n ≡ true) where
     unfolding order
     ordered = rw (front-long parents n fine) (below-same (upIn links) (holder (take n parents)) n (λ j l. linked .held j (omega arith) l) n 0 n)
 
-    pub can-list : (entries : List ℕ) → length entries ≡ 1024
-        → Linked (upIn links) n 0 links × ((n ≤ n) × (0 + n ≤ 1024) × (2 * (0 + length (below (upIn links) n n 0 n)) ≤ length entries))
+    pub can-list : (entries : List ℕ) → length entries ≡ entryWidth * mostFields
+        → Linked (upIn links) n 0 links × ((n ≤ n) × (0 + n ≤ mostFields) × (entryWidth * (0 + length (below (upIn links) n n 0 n)) ≤ length entries))
     can-list entries long =
         let few = inside-few parents n fine .0 in
         let many = front-few parents n fine (chains-are ends) in

@@ -2,10 +2,10 @@
 use crate::links::FIRST;
 use crate::links::LINK_NUMBERS;
 use crate::links::NEXT;
-ghost use mathlib.Core.Path.{_≡_};
 ghost use mathlib.Core.List.{_∷_};
-ghost use Prim.Native.Nat.{suc, _+_, _*_, _≤_, _<_};
+ghost use Prim.Native.Nat.{_+_, _*_, _≤_, _<_};
 ghost use lib.ListN.{length};
+ghost use Rattle.rows.specs.Words.{mostFields};
 ghost use Rattle.listing.specs.Entries.{entryWidth};
 ghost use Rattle.listing.specs.Order.{below};
 ghost use Rattle.field_order.specs.Links.{upIn, Linked};
@@ -22,7 +22,7 @@ fn list_field(
     at: usize,
 ) -> usize
     requires { ⌜ Linked (upIn (now links)) n 0 (now links) ⌝ }
-    requires { ⌜ (k < n) × (level + left < 1024) × (entryWidth * (at + 1 + length (below (upIn (now links)) n left (level + 1) k)) ≤ length (now entries)) ⌝ }
+    requires { ⌜ (k < n) × (level + left < mostFields) × (entryWidth * (at + 1 + length (below (upIn (now links)) n left (level + 1) k)) ≤ length (now entries)) ⌝ }
     ensures { λ r. ⌜ Entered (now (entries .entry)) at (now (entries .exit)) r (record { field = k; level = level } ∷ below (upIn (now (links .entry))) n left (level + 1) k) ⌝ }
 {
     rows::put_words(
@@ -44,7 +44,7 @@ pub fn list_children(
     at: usize,
 ) -> usize
     requires { ⌜ Linked (upIn (now links)) n 0 (now links) ⌝ }
-    requires { ⌜ (above ≤ n) × (level + left ≤ 1024) × (entryWidth * (at + length (below (upIn (now links)) n left level above)) ≤ length (now entries)) ⌝ }
+    requires { ⌜ (above ≤ n) × (level + left ≤ mostFields) × (entryWidth * (at + length (below (upIn (now links)) n left level above)) ≤ length (now entries)) ⌝ }
     ensures { λ r. ⌜ Entered (now (entries .entry)) at (now (entries .exit)) r (below (upIn (now (links .entry))) n left level above) ⌝ }
 {
     if left == 0 {

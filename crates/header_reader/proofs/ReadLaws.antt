@@ -44,82 +44,82 @@ answered-refused {x} f c a e = answered x (rw e) (rw e) (rw e) (rw e)
 
 -- a header that a scan found, and what it left in the arrays
 module _ (e : List ℕ) {scan : HeaderScan} {q : ℕ} (w : found scan q ≡ mapped scanOf (headerOf e)) {p r c a : List ℕ} (k : Scanned (headerOf e) p r c a) where
-  pub m : Mapped scanOf (headerOf e) scan q
-  m = mapped-found scanOf (headerOf e) w
+  pub the-header : Mapped scanOf (headerOf e) scan q
+  the-header = mapped-found scanOf (headerOf e) w
 
-  pub left : Rows (m .value .lists) p r c a
-  left = k .holds (m .value) q (m .was)
+  pub rows-there : Rows (the-header .value .lists) p r c a
+  rows-there = k .holds (the-header .value) q (the-header .was)
 
-  pub is-found : headerOf e ≡ found (m .value) q
-  is-found = m .was
+  pub is-found : headerOf e ≡ found (the-header .value) q
+  is-found = the-header .was
 
-  pub fields-count : scan .lists .fields ≡ length (m .value .lists .fields)
-  fields-count = ap (λ (x : HeaderScan). x .lists .fields) (m .is)
+  pub fields-count : scan .lists .fields ≡ length (the-header .value .lists .fields)
+  fields-count = ap (λ (x : HeaderScan). x .lists .fields) (the-header .is)
 
-  columns-count : scan .lists .columns ≡ length (m .value .lists .columns)
-  columns-count = ap (λ (x : HeaderScan). x .lists .columns) (m .is)
+  columns-count : scan .lists .columns ≡ length (the-header .value .lists .columns)
+  columns-count = ap (λ (x : HeaderScan). x .lists .columns) (the-header .is)
 
-  aliases-count : scan .lists .aliases ≡ length (m .value .lists .aliases)
-  aliases-count = ap (λ (x : HeaderScan). x .lists .aliases) (m .is)
+  aliases-count : scan .lists .aliases ≡ length (the-header .value .lists .aliases)
+  aliases-count = ap (λ (x : HeaderScan). x .lists .aliases) (the-header .is)
 
   -- the dark marks
 
-  pub some-parents : take (scan .lists .fields) p ≡ parentsOf (m .value .lists .fields)
+  pub some-parents : take (scan .lists .fields) p ≡ parentsOf (the-header .value .lists .fields)
   some-parents =
-      ap (take (scan .lists .fields)) (left .parentsAre)
-      ∙ take-at (parentsOf (m .value .lists .fields)) _ (scan .lists .fields) (length-map (m .value .lists .fields) (λ (r : FieldRow). r .head .parent .0) ∙ sym fields-count)
+      ap (take (scan .lists .fields)) (rows-there .parentsAre)
+      ∙ take-at (parentsOf (the-header .value .lists .fields)) _ (scan .lists .fields) (length-map (the-header .value .lists .fields) (λ (r : FieldRow). r .head .parent .0) ∙ sym fields-count)
 
-  pub few : scan .lists .fields ≤ mostFields
-  few = let n = fields-count in let b = fields-few e is-found in omega arith
+  pub few-fields : scan .lists .fields ≤ mostFields
+  few-fields = let n = fields-count in let b = fields-few e is-found in omega arith
 
-  inside : Inside (parentsOf (m .value .lists .fields)) (scan .lists .fields)
+  inside : Inside (parentsOf (the-header .value .lists .fields)) (scan .lists .fields)
   inside i h =
       let n = fields-count in
       let b = parents-inside e is-found i (omega arith) in
       omega arith
 
-  columns-back-are : columnsIn c (scan .lists .columns) ≡ m .value .lists .columns
+  columns-back-are : columnsIn c (scan .lists .columns) ≡ the-header .value .lists .columns
   columns-back-are =
-      ap (λ (t : List ℕ). columnsIn t (scan .lists .columns)) (left .columnsAre) ∙ ap (columnsIn (over (columnTable (m .value .lists)) (replicate (length c) 0))) columns-count
-      ∙ columns-back .all (m .value .lists .columns) _
+      ap (λ (t : List ℕ). columnsIn t (scan .lists .columns)) (rows-there .columnsAre) ∙ ap (columnsIn (over (columnTable (the-header .value .lists)) (replicate (length c) 0))) columns-count
+      ∙ columns-back .all (the-header .value .lists .columns) _
 
-  pub mark-is : (i : ℕ) → darkMark p (scan .lists .fields) (columnsIn c (scan .lists .columns)) i ≡ bit (dark (parentsOf (m .value .lists .fields)) (m .value .lists .columns) i)
+  pub mark-is : (i : ℕ) → darkMark p (scan .lists .fields) (columnsIn c (scan .lists .columns)) i ≡ bit (dark (parentsOf (the-header .value .lists .fields)) (the-header .value .lists .columns) i)
   unfolding darkMark
   mark-is i =
       rw (
-        inside-front p (scan .lists .fields) (parentsOf (m .value .lists .fields)) few some-parents (length-map (m .value .lists .fields) (λ (r : FieldRow). r .head .parent .0) ∙ sym fields-count) inside,
+        inside-front p (scan .lists .fields) (parentsOf (the-header .value .lists .fields)) few-fields some-parents (length-map (the-header .value .lists .fields) (λ (r : FieldRow). r .head .parent .0) ∙ sym fields-count) inside,
         some-parents,
         columns-back-are,
-        hanging-all (scan .lists .fields) (m .value .lists .columns)
-            (subst (λ (n : ℕ). Owned n (m .value .lists .columns)) (sym fields-count) (each-owned (length (m .value .lists .fields)) (m .value .lists .columns) (column-fields e is-found))),
+        hanging-all (scan .lists .fields) (the-header .value .lists .columns)
+            (subst (λ (n : ℕ). Owned n (the-header .value .lists .columns)) (sym fields-count) (each-owned (length (the-header .value .lists .fields)) (the-header .value .lists .columns) (column-fields e is-found))),
       )
 
   -- the lent tables, once they are written
 
-  fields-back-are : firstRows fieldRow r (scan .lists .fields) ≡ m .value .lists .fields
+  fields-back-are : firstRows fieldRow r (scan .lists .fields) ≡ the-header .value .lists .fields
   fields-back-are =
-      ap (λ (t : List ℕ). firstRows fieldRow t (scan .lists .fields)) (left .fieldsAre) ∙ ap (firstRows fieldRow (over (flat (fieldWords 0) (m .value .lists .fields)) (replicate (length r) 0))) fields-count
-      ∙ rw (← flat-is (fieldWords 0) 0 (m .value .lists .fields)) (fields-back .all (λ _. 0) (m .value .lists .fields) _)
+      ap (λ (t : List ℕ). firstRows fieldRow t (scan .lists .fields)) (rows-there .fieldsAre) ∙ ap (firstRows fieldRow (over (flat (fieldWords 0) (the-header .value .lists .fields)) (replicate (length r) 0))) fields-count
+      ∙ rw (← flat-is (fieldWords 0) 0 (the-header .value .lists .fields)) (fields-back .all (λ _. 0) (the-header .value .lists .fields) _)
 
   fields-written : (F : List ℕ) {F′ : List ℕ} → F′ ≡ over (flatBy (λ i. fieldWords (darkMark p (scan .lists .fields) (columnsIn c (scan .lists .columns)) i)) 0 (firstRows fieldRow r (scan .lists .fields))) F
-      → F′ ≡ over (fieldTable (m .value .lists)) F
+      → F′ ≡ over (fieldTable (the-header .value .lists)) F
   fields-written F x =
-      let same = flat-same (λ i. fieldWords (darkMark p (scan .lists .fields) (columnsIn c (scan .lists .columns)) i)) (λ i. fieldWords (bit (dark (parentsOf (m .value .lists .fields)) (m .value .lists .columns) i)))
-      (λ i y. ap (λ d. fieldWords d y) (mark-is i)) 0 (m .value .lists .fields) in
+      let same = flat-same (λ i. fieldWords (darkMark p (scan .lists .fields) (columnsIn c (scan .lists .columns)) i)) (λ i. fieldWords (bit (dark (parentsOf (the-header .value .lists .fields)) (the-header .value .lists .columns) i)))
+      (λ i y. ap (λ d. fieldWords d y) (mark-is i)) 0 (the-header .value .lists .fields) in
       x ∙ ap (λ (l : List FieldRow). over (flatBy (λ i. fieldWords (darkMark p (scan .lists .fields) (columnsIn c (scan .lists .columns)) i)) 0 l) F) fields-back-are ∙ ap (λ (v : List ℕ). over v F) same
 
-  columns-front : (take (columnWidth * (scan .lists .columns)) c ≡ columnTable (m .value .lists)) × (columnWidth * (scan .lists .columns) ≤ length c)
+  columns-front : (take (columnWidth * (scan .lists .columns)) c ≡ columnTable (the-header .value .lists)) × (columnWidth * (scan .lists .columns) ≤ length c)
   unfolding columnWords
-  columns-front = front columnWords columnWidth (λ _. refl) (m .value .lists .columns) (replicate (length c) 0) columns-count (left .columnsAre)
+  columns-front = front columnWords columnWidth (λ _. refl) (the-header .value .lists .columns) (replicate (length c) 0) columns-count (rows-there .columnsAre)
 
-  aliases-front : (take (aliasWidth * (scan .lists .aliases)) a ≡ aliasTable (m .value .lists)) × (aliasWidth * (scan .lists .aliases) ≤ length a)
+  aliases-front : (take (aliasWidth * (scan .lists .aliases)) a ≡ aliasTable (the-header .value .lists)) × (aliasWidth * (scan .lists .aliases) ≤ length a)
   unfolding aliasWords
-  aliases-front = front aliasWords aliasWidth (λ _. refl) (m .value .lists .aliases) (replicate (length a) 0) aliases-count (left .aliasesAre)
+  aliases-front = front aliasWords aliasWidth (λ _. refl) (the-header .value .lists .aliases) (replicate (length a) 0) aliases-count (rows-there .aliasesAre)
 
   module _ (F C A : List ℕ) where
     fits-same : fitting (length F) (length C) (length A) (scan .lists .fields) (scan .lists .columns) (scan .lists .aliases)
-        ≡ fitting (length F) (length C) (length A) (length (m .value .lists .fields)) (length (m .value .lists .columns)) (length (m .value .lists .aliases))
-    fits-same = ap (λ (x : HeaderScan). fitting (length F) (length C) (length A) (x .lists .fields) (x .lists .columns) (x .lists .aliases)) (m .is)
+        ≡ fitting (length F) (length C) (length A) (length (the-header .value .lists .fields)) (length (the-header .value .lists .columns)) (length (the-header .value .lists .aliases))
+    fits-same = ap (λ (x : HeaderScan). fitting (length F) (length C) (length A) (x .lists .fields) (x .lists .columns) (x .lists .aliases)) (the-header .is)
 
     pub no-room : false ≡ fitting (length F) (length C) (length A) (scan .lists .fields) (scan .lists .columns) (scan .lists .aliases) → Answered (headerOf e) F F C C A A (Refused 20)
     unfolding answer written
@@ -129,7 +129,7 @@ module _ (e : List ℕ) {scan : HeaderScan} {q : ℕ} (w : found scan q ≡ mapp
       pub fits : Fits (scan .lists .fields) (scan .lists .columns) (scan .lists .aliases) (length c) (length a) (length F) (length C) (length A)
       fits =
           let y = fitting-true (length F) (length C) (length A) (scan .lists .fields) (scan .lists .columns) (scan .lists .aliases) (sym x) in
-          record { few = few; columnsThere = columns-front .1; aliasesThere = aliases-front .1; fieldsFit = y .0; columnsFit = y .1; aliasesFit = y .2 }
+          record { few = few-fields; columnsThere = columns-front .1; aliasesThere = aliases-front .1; fieldsFit = y .0; columnsFit = y .1; aliasesFit = y .2 }
 
       pub all-read : {F′ C′ A′ : List ℕ}
           → F′ ≡ over (flatBy (λ i. fieldWords (darkMark p (scan .lists .fields) (columnsIn c (scan .lists .columns)) i)) 0 (firstRows fieldRow r (scan .lists .fields))) F
@@ -140,7 +140,7 @@ module _ (e : List ℕ) {scan : HeaderScan} {q : ℕ} (w : found scan q ≡ mapp
       all-read i j l =
           let t = sym fits-same ∙ sym x in
           answered (headerOf e)
-          (rw (is-found, t) (ap (λ (v : HeaderScan). Accepted (record { texts = v .texts; fields = v .lists .fields; columns = v .lists .columns; aliases = v .lists .aliases })) (m .is)))
+          (rw (is-found, t) (ap (λ (v : HeaderScan). Accepted (record { texts = v .texts; fields = v .lists .fields; columns = v .lists .columns; aliases = v .lists .aliases })) (the-header .is)))
           (rw (is-found, t) (fields-written F i))
           (rw (is-found, t) (j ∙ ap (λ (v : List ℕ). over v C) (columns-front .0)))
           (rw (is-found, t) (l ∙ ap (λ (v : List ℕ). over v A) (aliases-front .0)))
