@@ -10,7 +10,7 @@ fn show(i: usize) {
         os::fail(&name[..length]);
         return;
     }
-    let mut input = [0u8; 65537];
+    let mut input = [0u8; report::MOST_BYTES + 1];
     let count = io::read_full(fd, &mut input);
     libc::close(fd);
     let line = report::check_header(&input[..count]);

@@ -14,13 +14,13 @@ use Rattle.wire.specs.Reading.{Step, found, refused}
 use Rattle.header.specs.Header.{Header}
 use Rattle.header.specs.Tables.{headerOf}
 use Rattle.report.specs.Line.{lineOf, refusedLine}
-use Rattle.report.specs.Program.{printed as printedLine}
+use Rattle.report.specs.Program.{mostBytes, printed as printedLine}
 use Rattle.report.specs.declared.Line.{Line}
 use Rattle.listing.specs.Lines.{listing}
 use Rattle.listing.specs.Answers.{fitted, placed, answer, left, Answered}
 use Rattle.listing.specs.declared.ListAnswer.{ListAnswer}
 use Rattle.listing.specs.declared.ListAnswer.the-variants.{Listed, Refused}
-use Rattle.list_report.specs.Printed.{mostBytes, shownFor, printed, Prints}
+use Rattle.list_report.specs.Printed.{shownFor, printed, Prints}
 
 pub prints-counts : {bytes old new : List ℕ} {r : ℕ} → Prints bytes old new r → Counts r new
 prints-counts {bytes} {old} {new} {r} p =

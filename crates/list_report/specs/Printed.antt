@@ -10,13 +10,11 @@ use Rattle.wire.specs.Reading.{Step, found, refused}
 use Rattle.header.specs.Header.{Header}
 use Rattle.header.specs.Tables.{headerOf}
 use Rattle.report.specs.Line.{refusedLine, longerLine}
+use Rattle.report.specs.Program.{mostBytes}
 use Rattle.listing.specs.Lines.{listing}
 
--- the most bytes of a listing, and of a header that is listed
-abbrev pub mostBytes : ℕ
-mostBytes = 65536
-
--- for an envelope and its header: the listing, or the line of a refusal, by 20 where the listing is too long
+-- for an envelope and its header: the listing, of at most as many bytes as a header that is read; or the line of a refusal, by 20 where the
+-- listing is longer
 unfoldable pub shownFor : List ℕ → Step Header → List ℕ
 shownFor e (found h p) = pick (leb (length (listing e (h .lists))) mostBytes) (listing e (h .lists)) (refusedLine 20)
 shownFor e (refused f) = refusedLine (f .number)

@@ -6,8 +6,8 @@ ghost use lib.ListN.{take};
 ghost use Rattle.io.specs.Counts.{Counts};
 ghost use Rattle.list_report.specs.Printed.{printed, Prints};
 
-// The most bytes of a listing, and of a header that is listed.
-pub const MOST_BYTES: usize = 65536;
+// The most bytes of a listing, as many as of a header that is read.
+pub const MOST_BYTES: usize = report::MOST_BYTES;
 
 // Writes all that is printed for what was read over the first of the lent bytes, and answers how many bytes these are: the listing of a header,
 // or the line that tells why there is none.

@@ -18,7 +18,7 @@ use Rattle.refusals.specs.Refusals.{among, inHeader, HeaderNumbers}
 use Rattle.refusals.proofs.HeaderNumbers.{header-numbers}
 use Rattle.report.specs.declared.Line.{Line}
 use Rattle.report.specs.Line.{headerLine, lineOf}
-use Rattle.report.specs.Program.{verdict, printed}
+use Rattle.report.specs.Program.{mostBytes, verdict, printed}
 use Rattle.report.specs.Printed.{fullAnswer, FullTablesSuffice, NeverTwenty}
 
 pub full-tables-suffice : FullTablesSuffice
@@ -43,6 +43,6 @@ never-twenty e w = by (headerOf e) (header-numbers e) (sym (full-tables-suffice 
         omega arith
 
 -- the line for what the reader answers with full tables is the one that is printed
-pub header-printed : (input : List ℕ) {a : HeaderAnswer} {line : Line} → length input ≤ 65536 → a ≡ fullAnswer (headerOf input) → line ≡ lineOf (headerLine a) → line ≡ lineOf (printed input)
+pub header-printed : (input : List ℕ) {a : HeaderAnswer} {line : Line} → length input ≤ mostBytes → a ≡ fullAnswer (headerOf input) → line ≡ lineOf (headerLine a) → line ≡ lineOf (printed input)
 unfolding printed
-header-printed input h e w = rw (le-leb (length input) 65536 h, ← full-tables-suffice input, ← e) w
+header-printed input h e w = rw (le-leb (length input) mostBytes h, ← full-tables-suffice input, ← e) w

@@ -10,7 +10,7 @@ use Rattle.header.specs.Header.{Header}
 use Rattle.header.specs.Tables.{headerOf, answer}
 use Rattle.header.specs.declared.HeaderAnswer.{HeaderAnswer}
 use Rattle.header.specs.declared.HeaderAnswer.the-variants.{Refused}
-use Rattle.report.specs.Program.{verdict, printed}
+use Rattle.report.specs.Program.{mostBytes, verdict, printed}
 
 -- the answer where the lent tables have room for all the rows that a header may have
 abbrev pub fullAnswer : Step Header → HeaderAnswer
@@ -40,4 +40,4 @@ abbrev pub EmptyInput : Type 0
 EmptyInput = printed [] ≡ text "1 refused 2\n"
 
 abbrev pub LongerInput : Type 0
-LongerInput = (input : List ℕ) → 65536 < length input → printed input ≡ text "1 longer than 65536\n"
+LongerInput = (input : List ℕ) → mostBytes < length input → printed input ≡ text "1 longer than 65536\n"

@@ -17,6 +17,10 @@ verdict (found h p) =
     Accepted (record { texts = h .texts; fields = length (h .lists .fields); columns = length (h .lists .columns); aliases = length (h .lists .aliases) })
 verdict (refused f) = Refused (f .number)
 
+-- the most bytes of a header that a program reads
+abbrev pub mostBytes : ℕ
+mostBytes = 65536
+
 -- the whole line that is printed
 unfoldable pub printed : List ℕ → List ℕ
-printed input = pick (leb (length input) 65536) (headerLine (verdict (headerOf input))) longerLine
+printed input = pick (leb (length input) mostBytes) (headerLine (verdict (headerOf input))) longerLine

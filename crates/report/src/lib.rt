@@ -9,6 +9,9 @@ ghost use Rattle.decimals.specs.Decimal.{decimal};
 ghost use Rattle.report.specs.Line.{acceptedLine, refusedLine, longerLine, headerLine, lineOf, added};
 ghost use Rattle.report.specs.Program.{printed};
 
+// The most bytes of a header that a program reads.
+pub const MOST_BYTES: usize = 65536;
+
 // The first `len` bytes are the line, its end included.
 pub struct Line {
     pub bytes: [u8; 128],
@@ -20,7 +23,7 @@ pub fn check_header(input: &[u8]) -> Line
     ensures { λ r. ⌜ r ≡ lineOf (printed (now (input .entry))) ⌝ }
     ensures { λ r. ⌜ Counts (r .len) (r .bytes) ⌝ }
 {
-    if 65536 < input.len() {
+    if MOST_BYTES < input.len() {
         return longer_line();
     }
     let mut fields = [0u64; rows::FULL_FIELDS];

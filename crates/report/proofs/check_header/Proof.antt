@@ -1,7 +1,7 @@
 use borrow.Author.Tests.{lt-leb}
 use lib.ListN.{length}
 use Rattle.report.specs.Line.{headerLine, longerLine}
-use Rattle.report.specs.Program.{printed}
+use Rattle.report.specs.Program.{mostBytes, printed}
 use Rattle.report.proofs.LineLaws.{line-counts}
 use Rattle.report.proofs.RoomLaws.{header-printed}
 use borrow.Author.Needs.{needs}
@@ -15,7 +15,7 @@ returns : tie.Need-returns
 unfolding printed
 returns c =
     let input = c .before .before .before .args .input .now in
-    (rw (lt-leb (length input) 65536 (c .before .if1 .taken)) (c .longer-line .ensures), line-counts longerLine (c .longer-line .ensures))
+    (rw (lt-leb (length input) mostBytes (c .before .if1 .taken)) (c .longer-line .ensures), line-counts longerLine (c .longer-line .ensures))
 
 slice-aggregate-read-header : tie.Need-slice-aggregate-read-header
 slice-aggregate-read-header c = search needs
