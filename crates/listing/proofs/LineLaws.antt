@@ -42,11 +42,11 @@ shown-plain (b ∷ l) = (byte-plain b (ltb b 32) (eqb b 127) refl refl, shown-pl
 
 -- what is shown of bytes that print is they themselves
 
-kept : (l : List ℕ) → Each Plain l → shown l ≡ l
+pub kept : (l : List ℕ) → Each Plain l → shown l ≡ l
 kept [] w = refl
 kept (b ∷ l) w = λ i. bytes-kept b (w .0 .0) (w .0 .1) i ∷ kept l (w .1) i
 
-spaces-plain : (k : ℕ) → Each Plain (replicate k 32)
+pub spaces-plain : (k : ℕ) → Each Plain (replicate k 32)
 spaces-plain zero = tt
 spaces-plain (suc k) = ((omega arith, λ e. omega arith), spaces-plain k)
 
