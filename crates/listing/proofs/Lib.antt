@@ -5,7 +5,6 @@ pub mod TimesLaws
 pub mod ListedLaws
 pub mod RankLaws
 pub mod NestedLaws
-pub mod DigitLaws
 pub mod LineLaws
 pub mod Statements
 pub mod TellingLaws

@@ -11,6 +11,7 @@ use Rattle.numbers.proofs.Lists.{each-weaken}
 use Rattle.numbers.specs.Choice.{pick}
 use Rattle.numbers.specs.Rows.{over}
 use Rattle.decimals.specs.Decimal.{text, decimal}
+use Rattle.decimals.proofs.DigitLaws.{decimal-digits}
 use Rattle.utf8.specs.Scalars.{Text}
 use Rattle.utf8.proofs.Exactly.{well-formed-exactly}
 use Rattle.wire.specs.Reading.{Step, found, refused}
@@ -20,7 +21,6 @@ use Rattle.listing.specs.Order.{order}
 use Rattle.listing.specs.Lines.{darkWord, line, entryLine, rowIn, darkIn, listing}
 use Rattle.listing.specs.Answers.{fitted, placed, answer, left}
 use Rattle.listing.specs.declared.ListAnswer.the-variants.{Listed, Refused}
-use Rattle.listing.proofs.DigitLaws.{decimal-digits}
 use Rattle.listing_text.specs.Statements.{ListingIsText, ListingWellFormed, WrittenIsText}
 use Rattle.listing_text.proofs.TextLaws.{text-none, text-append, text-flat, text-one, text-ascii}
 use Rattle.listing_text.proofs.ShownLaws.{shown-text}
