@@ -19,10 +19,11 @@ use Rattle.listing.specs.Listed.{fieldsIn}
 use Rattle.listing.specs.Lines.{characters, entryLine, rowIn, darkIn, listing}
 use Rattle.listing.specs.Answers.{fitted, answer}
 use Rattle.listing.specs.declared.ListAnswer.the-variants.{Listed}
+use Rattle.listing.proofs.TimesLaws.{sumOver}
 use Rattle.listing.proofs.RankLaws.{order-within}
 use Rattle.listing.proofs.Statements.{order-levels}
 use Rattle.listing_length.specs.Statements.{ListingLength, RoomEnough}
-use Rattle.listing_length.proofs.Sums.{sumOver, order-sum}
+use Rattle.listing_length.proofs.Sums.{order-sum}
 use Rattle.listing_length.proofs.Records.{least, fields-inside}
 use Rattle.listing_length.proofs.Lines.{line-length, characters-length}
 
