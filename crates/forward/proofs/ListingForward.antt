@@ -18,7 +18,7 @@ use Rattle.listing.specs.declared.ListAnswer.{ListAnswer}
 use Rattle.listing.specs.declared.ListAnswer.the-variants.{Listed, Refused}
 use Rattle.tree.specs.HeaderTree.{headerContent}
 use Rattle.forward.specs.HeaderAppend.{fieldCount}
-use Rattle.forward.specs.ListingForward.{appendedLines, Lists, ListingForward}
+use Rattle.forward.specs.ListingForward.{appendedLines, ListsBytes, ListingForward}
 use Rattle.forward.proofs.HeaderForward.{the-header, still-read}
 use Rattle.forward.proofs.Appending.{read-more}
 use Rattle.forward.proofs.Lines.{listed, listing-content}
@@ -50,7 +50,7 @@ listed-call e out₀ out n call = by (headerOf e) refl (call .answers) (call .by
     by (refused g) reads a o = let z : _≡_ {A = ℕ} 0 1 = cc in absurd (omega arith)
 
 -- a call for an accepted header lists its listing
-lists : {e bytes out₀ out : List ℕ} {r : ListAnswer} {h : Header} {p : ℕ} → headerOf e ≡ found h p → listing e (h .lists) ≡ bytes → Answered e out₀ out r → Lists bytes out₀ out r
+lists : {e bytes out₀ out : List ℕ} {r : ListAnswer} {h : Header} {p : ℕ} → headerOf e ≡ found h p → listing e (h .lists) ≡ bytes → Answered e out₀ out r → ListsBytes bytes out₀ out r
 unfolding answer left
 lists reads is call = record { answers = call .answers ∙ rw (reads, is); bytesAre = call .bytesAre ∙ rw (reads, is) }
 

@@ -27,20 +27,20 @@ use Rattle.listing.specs.Answers.{fitted, placed, answer, left}
 use Rattle.listing.specs.Samples.{ListedAs, vectorHeader, vectorLines, VectorListed, darkHeader, darkLines, DarkListed}
 
 -- a header is accepted, and its listing is these bytes
-pub record Lists (e bytes : List ℕ) : Type 0 where
+pub record ListingIs (e bytes : List ℕ) : Type 0 where
   pub header : Header
   pub stop : ℕ
   pub reads : headerOf e ≡ found header stop
   pub lines : listing e (header .lists) ≡ bytes
 
-listed-as : (e bytes : List ℕ) → Lists e bytes → ListedAs e bytes
+listed-as : (e bytes : List ℕ) → ListingIs e bytes → ListedAs e bytes
 unfolding answer left fitted placed
 listed-as e bytes l out out′ r call = (
   λ fits. (call .answers ∙ rw (l .reads, l .lines, le-leb (length bytes) (length out) fits), call .bytesAre ∙ rw (l .reads, l .lines, le-leb (length bytes) (length out) fits)),
   λ few. (call .answers ∙ rw (l .reads, l .lines, lt-leb (length bytes) (length out) few), call .bytesAre ∙ rw (l .reads, l .lines, lt-leb (length bytes) (length out) few)),
 )
 
-computed : Lists vectorHeader vectorLines × Lists darkHeader darkLines
+computed : ListingIs vectorHeader vectorLines × ListingIs darkHeader darkLines
 unfolding versioned opened recordOf listOf items number judged stringOf wellFormed goesOn due frameSize recordHead listStop countJudged little crc32 fold byte bits shifted features headerOf chained payload texts lists columnsAfter aliasesAfter repetition fieldHead fieldTexts field known column allReach meets dark decimalBy joined below order line entryLine listing flat textOf
 computed = (record { header = _; stop = _; reads = refl; lines = refl }, record { header = _; stop = _; reads = refl; lines = refl })
 

@@ -17,10 +17,10 @@ dark-length : (d : Bool) → length (darkWord d) ≤ 5
 dark-length true = omega arith
 dark-length false = omega arith
 
-pub line-length : (level field : ℕ) (name type : List ℕ) (d : Bool) → field < 1000
+pub line-most : (level field : ℕ) (name type : List ℕ) (d : Bool) → field < 1000
     → length (line level field name type d) ≤ 2 * level + 11 + length name + length type
 unfolding line
-line-length level field name type d l =
+line-most level field name type d l =
     let digits = three-digits field l in
     let dark = dark-length d in
     simp (length-append, length-map, length-replicate) (omega arith)

@@ -25,7 +25,7 @@ use Rattle.listing.proofs.Statements.{order-levels}
 use Rattle.listing_length.specs.Statements.{ListingLength, RoomEnough}
 use Rattle.listing_length.proofs.Sums.{order-sum}
 use Rattle.listing_length.proofs.Records.{least, fields-inside}
-use Rattle.listing_length.proofs.Lines.{line-length, characters-length}
+use Rattle.listing_length.proofs.Lines.{line-most, characters-length}
 
 -- lines that are each no longer than a number for its field
 lines-length : (w : Entry → List ℕ) (most level : ℕ → ℕ) (n : ℕ) → ((x : Entry) → x .field < n → x .level ≡ level (x .field) → length (w x) ≤ most (x .field))
@@ -57,7 +57,7 @@ listing-length e h p w =
     (λ x k is.
     let name = rowIn l (x .field) .texts .name in
     let type = rowIn l (x .field) .texts .«type_name» in
-    let a = line-length (x .level) (x .field) (characters e name) (characters e type) (darkIn l (x .field)) (omega arith) in
+    let a = line-most (x .level) (x .field) (characters e name) (characters e type) (darkIn l (x .field)) (omega arith) in
     let b = characters-length e name in
     let c = characters-length e type in
     omega arith)
