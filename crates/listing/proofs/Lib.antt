@@ -9,6 +9,7 @@ pub mod LineLaws
 pub mod Statements
 pub mod TellingLaws
 pub mod ReadLaws
+pub mod CallLaws
 pub mod Besides
 pub mod AppendLaws
 pub mod Samples
