@@ -20,7 +20,8 @@ use Rattle.tree.specs.HeaderTree.{FieldContent, HeaderTree, renderHeader}
 use Rattle.forward.specs.HeaderForward.{ChosenHeader, TheHeader}
 use Rattle.forward.specs.HeaderAppend.{appended, fieldCount, Appendix}
 
--- of these columns one is of unknown type and hangs on field k
+-- Of these columns one is of unknown type and hangs on field k. For an appended field and the appended columns that is what `dark` is: these columns
+-- hang on appended fields only, each its own parent, so that none is below another (law `own-dark`, forward/proofs/Appending).
 unfoldable pub darkened : List (Framed ColumnRow) → ℕ → Bool
 darkened [] k = false
 darkened (c ∷ cs) k = pick (both (not (known (c .inside .«column_type»))) (eqb k (c .inside .field .0))) true (darkened cs k)
@@ -31,7 +32,7 @@ appendedLines n fields columns = flatBy (λ k f. line 0 k (f .inside .texts .nam
 
 -- A call lists these bytes: they are in front of what was lent and their number is the answer, or, where they do not fit, the answer is 20 and
 -- nothing is written.
-pub record Lists (bytes out₀ out : List ℕ) (r : ListAnswer) : Type 0 where
+pub record ListsBytes (bytes out₀ out : List ℕ) (r : ListAnswer) : Type 0 where
   pub answers : r ≡ fitted (length out₀) bytes
   pub bytesAre : out ≡ placed out₀ bytes
 
@@ -42,10 +43,10 @@ pub record ListingKept (e bytes : List ℕ) (n : ℕ) : Type 0 where
   -- they are as many as it answered
   pub count : length bytes ≡ n
   pub forward : (new : HeaderTree) → ChosenHeader (header .tree) new → length (renderHeader new) ≤ ceiling
-      → (out₀ out : List ℕ) (r : ListAnswer) → Answered (renderHeader new) out₀ out r → Lists bytes out₀ out r
+      → (out₀ out : List ℕ) (r : ListAnswer) → Answered (renderHeader new) out₀ out r → ListsBytes bytes out₀ out r
   pub append : (fields : List (Framed FieldContent)) (columns : List (Framed ColumnRow)) → Appendix (header .tree) fields columns
       → (out₀ out : List ℕ) (r : ListAnswer) → Answered (renderHeader (appended (header .tree) fields columns)) out₀ out r
-      → Lists (bytes ++ appendedLines (fieldCount (header .tree)) fields columns) out₀ out r
+      → ListsBytes (bytes ++ appendedLines (fieldCount (header .tree)) fields columns) out₀ out r
 
 -- Demand 3 for the listing: for every call that listed a header, whose bytes are the first n of those that it left.
 abbrev pub ListingForward : Type 0

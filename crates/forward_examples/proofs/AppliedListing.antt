@@ -22,7 +22,7 @@ use Rattle.tree.specs.Bytes.{spelled}
 use Rattle.tree.specs.EnvelopeTree.{unsummed, sealed}
 use Rattle.tree.specs.HeaderTree.{featureWords, textsShape, listsShape, payloadShape, headShape, stringsShape, fieldShape, columnShape, aliasShape, HeaderTree, renderHeader}
 use Rattle.forward.specs.HeaderAppend.{appended, fieldCount, Appendix}
-use Rattle.forward.specs.ListingForward.{darkened, appendedLines, Lists, ListingKept}
+use Rattle.forward.specs.ListingForward.{darkened, appendedLines, ListsBytes, ListingKept}
 use Rattle.forward.proofs.Demand3.{demand-3}
 use Rattle.forward_examples.specs.Example.{plainHeader, newerHeader, appendedFields, appendedColumns, appendedHeader, plainLines, moreLines, Listable}
 use Rattle.forward_examples.proofs.Extensible.{extensible, appendable}
@@ -68,7 +68,7 @@ appended-few-call = list-call moreLines lent-bytes (appendable .appendedReads) (
 listing-kept : ListingKept (renderHeader plainHeader) plainLines 22
 listing-kept = demand-3 .listing (renderHeader plainHeader) lent-bytes (plainLines ++ (9 ∷ [])) 22 plain-bytes plain-list-call
 
-pub newer-listing-kept : (out₀ out : List ℕ) (r : ListAnswer) → Answered (renderHeader newerHeader) out₀ out r → Lists plainLines out₀ out r
+pub newer-listing-kept : (out₀ out : List ℕ) (r : ListAnswer) → Answered (renderHeader newerHeader) out₀ out r → ListsBytes plainLines out₀ out r
 newer-listing-kept = listing-kept .forward newerHeader (chosen-header (listing-kept .header)) (omega (arith, extensible .newerHeaderBytes))
 
 -- the line of the appended field
@@ -76,7 +76,7 @@ appended-line : appendedLines 2 appendedFields appendedColumns ≡ text "2 c \n"
 unfolding flatBy line decimalBy darkened known
 appended-line = refl
 
-pub appended-listing-kept : (out₀ out : List ℕ) (r : ListAnswer) → Answered (renderHeader appendedHeader) out₀ out r → Lists moreLines out₀ out r
+pub appended-listing-kept : (out₀ out : List ℕ) (r : ListAnswer) → Answered (renderHeader appendedHeader) out₀ out r → ListsBytes moreLines out₀ out r
 appended-listing-kept out₀ out r call =
-    let appends = subst (λ (t : HeaderTree). Appendix t appendedFields appendedColumns → (out₀ out : List ℕ) (r : ListAnswer) → Answered (renderHeader (appended t appendedFields appendedColumns)) out₀ out r → Lists (plainLines ++ appendedLines (fieldCount t) appendedFields appendedColumns) out₀ out r) (sym (the-plain (listing-kept .header))) (listing-kept .append appendedFields appendedColumns) in
-    subst (λ (lines : List ℕ). Lists (plainLines ++ lines) out₀ out r) appended-line (appends (appendable .appendix) out₀ out r call)
+    let appends = subst (λ (t : HeaderTree). Appendix t appendedFields appendedColumns → (out₀ out : List ℕ) (r : ListAnswer) → Answered (renderHeader (appended t appendedFields appendedColumns)) out₀ out r → ListsBytes (plainLines ++ appendedLines (fieldCount t) appendedFields appendedColumns) out₀ out r) (sym (the-plain (listing-kept .header))) (listing-kept .append appendedFields appendedColumns) in
+    subst (λ (lines : List ℕ). ListsBytes (plainLines ++ lines) out₀ out r) appended-line (appends (appendable .appendix) out₀ out r call)

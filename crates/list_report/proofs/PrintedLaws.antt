@@ -5,21 +5,20 @@ use mathlib.Core.Logic.{⊎-elim}
 use mathlib.Core.List.{List}
 use native.Mathlib.Omega.{arith}
 use borrow.Author.Tests.{le-leb, lt-leb}
-use lib.Dec.{leb}
 use lib.ListN.{length, take, drop, length-append}
 use lib.Seq.{take-append-seam}
-use Rattle.numbers.proofs.Choice.{which}
 use Rattle.io.specs.Counts.{Counts}
-use Rattle.wire.specs.Reading.{Step, found, refused}
+use Rattle.wire.specs.Reading.{Step, found}
 use Rattle.header.specs.Header.{Header}
 use Rattle.header.specs.Tables.{headerOf}
 use Rattle.report.specs.Line.{lineOf, refusedLine}
 use Rattle.report.specs.Program.{mostBytes, printed as printedLine}
 use Rattle.report.specs.declared.Line.{Line}
 use Rattle.listing.specs.Lines.{listing}
-use Rattle.listing.specs.Answers.{fitted, placed, answer, left, Answered}
+use Rattle.listing.specs.Answers.{Answered}
 use Rattle.listing.specs.declared.ListAnswer.{ListAnswer}
 use Rattle.listing.specs.declared.ListAnswer.the-variants.{Listed, Refused}
+use Rattle.listing.proofs.CallLaws.{call-listed, call-refused}
 use Rattle.list_report.specs.Printed.{shownFor, printed, Prints}
 
 pub prints-counts : {bytes old new : List ℕ} {r : ℕ} → Prints bytes old new r → Counts r new
@@ -44,43 +43,34 @@ pub longer-same : (input : List ℕ) → mostBytes < length input → printedLin
 unfolding printedLine printed
 longer-same input l = rw (lt-leb (length input) mostBytes l)
 
--- the number of bytes or of a refusal, told apart
-abbrev number : ListAnswer → ℕ
-number (Listed n) = n
-number (Refused n) = n
-
-abbrev isListed : ListAnswer → ℕ
-isListed (Listed n) = 1
-isListed (Refused n) = 0
-
-is-shown : (e : List ℕ) → length e ≤ mostBytes → printed e ≡ shownFor e (headerOf e)
+-- for a header that is not longer, by what was read
+is-shown : (e : List ℕ) → length e ≤ mostBytes → {x : Step Header} → headerOf e ≡ x → shownFor e x ≡ printed e
 unfolding printed
-is-shown e short = rw (le-leb (length e) mostBytes short)
+is-shown e short reads = ap (shownFor e) (sym reads) ∙ rw (le-leb (length e) mostBytes short)
 
+-- and by what the call for it answers
 module _ (e : List ℕ) (short : length e ≤ mostBytes) (out₀ : List ℕ) {out : List ℕ} (room : length out₀ ≡ mostBytes) where
   pub listed-prints : {r : ListAnswer} (n : ℕ) → r ≡ Listed n → Answered e out₀ out r → Prints (printed e) out₀ out n
-  unfolding answer left shownFor fitted placed
+  unfolding shownFor
   listed-prints n is a =
-      subst (λ (l : List ℕ). Prints l out₀ out n) (sym (is-shown e short))
-      (by (headerOf e) (sym is ∙ a .answers ∙ ap (λ (k : ℕ). answer k e (headerOf e)) room) (a .bytesAre))
-    where
-      by : (x : Step Header) → Listed n ≡ answer mostBytes e x → out ≡ left out₀ e x → Prints (shownFor e x) out₀ out n
-      by (found h p) w b =
-          ⊎-elim (λ t. rw t (record { many = ap number (rw t at w); stands = rw (room, t) at b }))
-          (λ t. let z : _≡_ {A = ℕ} 1 0 = ap isListed (rw t at w) in absurd (omega arith))
-          (which (leb (length (listing e (h .lists))) mostBytes))
-      by (refused f) w b = let z : _≡_ {A = ℕ} 1 0 = ap isListed w in absurd (omega arith)
+      let c = call-listed e out₀ out n (subst (Answered e out₀ out) is a) in
+      let bytes = listing e (c .header .lists) in
+      let fits = c .fits in
+      let count = c .count in
+      let shown : shownFor e (found (c .header) (c .place)) ≡ bytes = rw (le-leb (length bytes) mostBytes (omega arith)) in
+      subst (λ (l : List ℕ). Prints l out₀ out n) (sym shown ∙ is-shown e short (c .reads)) (record { many = count; stands = c .leaves })
 
   pub refused-prints : {r : ListAnswer} (n : ℕ) → r ≡ Refused n → Answered e out₀ out r → (refusedLine n ≡ printed e) × (out ≡ out₀)
-  unfolding answer left shownFor fitted placed
+  unfolding shownFor
   refused-prints n is a =
-      let r = by (headerOf e) (sym is ∙ a .answers ∙ ap (λ (k : ℕ). answer k e (headerOf e)) room) (a .bytesAre) in
-      (r .0 ∙ sym (is-shown e short), r .1)
-    where
-      by : (x : Step Header) → Refused n ≡ answer mostBytes e x → out ≡ left out₀ e x → (refusedLine n ≡ shownFor e x) × (out ≡ out₀)
-      by (found h p) w b =
-          ⊎-elim
-          (λ t. let z : _≡_ {A = ℕ} 0 1 = ap isListed (rw t at w) in absurd (omega arith))
-          (λ t. rw t (ap (λ (k : ℕ). refusedLine k) (ap number (rw t at w)), rw (room, t) at b))
-          (which (leb (length (listing e (h .lists))) mostBytes))
-      by (refused f) w b = (ap (λ (k : ℕ). refusedLine k) (ap number w), b)
+      let c = call-refused e out₀ out n (subst (Answered e out₀ out) is a) in
+      let line : refusedLine n ≡ printed e
+      = ⊎-elim
+      (λ w.
+      let (h, p, reads, few, number) = w in
+      let bytes = listing e (h .lists) in
+      let shown : shownFor e (found h p) ≡ refusedLine 20 = rw (lt-leb (length bytes) mostBytes (omega arith)) in
+      ap (λ (k : ℕ). refusedLine k) number ∙ sym shown ∙ is-shown e short reads)
+      (λ w. let (f, reads, number) = w in ap (λ (k : ℕ). refusedLine k) number ∙ is-shown e short reads)
+      (c .why) in
+      (line, c .leaves)

@@ -1,15 +1,12 @@
 -- A listing beside a call of the header's reader.
-use Prim.Native.Nat.{ℕ, _≤_, _<_}
-use mathlib.Core.Path.{_≡_, refl}
-use mathlib.Core.Logic.{_⊎_, inl, inr, ⊎-elim}
+use Prim.Native.Nat.{ℕ}
+use mathlib.Core.Path.{_≡_, refl, sym, _∙_}
+use mathlib.Core.Logic.{⊎-elim}
 use mathlib.Core.Bool.{Bool, true, false}
 use mathlib.Core.List.{List}
 use native.Mathlib.Omega.{arith}
-use borrow.Author.Tests.{leb-true, leb-false}
-use lib.Dec.{leb}
 use lib.ListN.{length}
 use Rattle.numbers.specs.Choice.{pick}
-use Rattle.numbers.proofs.Choice.{which}
 use Rattle.wire.specs.Reading.{Step, found, refused}
 use Rattle.header.specs.Header.{Header}
 use Rattle.header.specs.Tables.{headerOf, roomFor, tablesOf, answer as headerAnswer}
@@ -18,12 +15,8 @@ use Rattle.header.specs.declared.HeaderAnswer.the-variants.{Accepted as HeaderA
 use Rattle.listing.specs.Lines.{listing}
 use Rattle.listing.specs.Answers.{fitted, answer}
 use Rattle.listing.specs.Statements.{BesideReader, ListBesideReader}
-use Rattle.listing.specs.declared.ListAnswer.the-variants.{Listed, Refused}
-
--- bytes fit, or are refused 20
-fitted-is : (room : ℕ) (bytes : List ℕ) → ((length bytes ≤ room) × (fitted room bytes ≡ Listed (length bytes))) ⊎ ((room < length bytes) × (fitted room bytes ≡ Refused 20))
-unfolding fitted
-fitted-is room bytes = ⊎-elim (λ t. inl (leb-true (length bytes) room t, rw t)) (λ t. inr (leb-false (length bytes) room t, rw t)) (which (leb (length bytes) room))
+use Rattle.listing.specs.declared.ListAnswer.the-variants.{Refused}
+use Rattle.listing.proofs.CallLaws.{fitted-is, not-both, refused-same}
 
 -- a refusal by room alone is 20
 
@@ -32,7 +25,7 @@ room-refused true t k e = absurd (let z : _≡_ {A = ℕ} 0 1 = cc in omega arit
 room-refused false t k e = cc
 
 fitted-refused : (room : ℕ) (bytes : List ℕ) (k : ℕ) → fitted room bytes ≡ Refused k → k ≡ 20
-fitted-refused room bytes k e = ⊎-elim (λ r. let q = r .1 in absurd (let z : _≡_ {A = ℕ} 0 1 = cc in omega arith)) (λ r. let q = r .1 in cc) (fitted-is room bytes)
+fitted-refused room bytes k e = ⊎-elim (λ r. absurd (not-both (r .1) e)) (λ r. refused-same (sym e ∙ r .1)) (fitted-is room bytes)
 
 by-step : (e : List ℕ) (room f c a : ℕ) (x : Step Header) → headerOf e ≡ x → BesideReader e room (headerAnswer f c a x) (answer room e x)
 unfolding headerAnswer answer

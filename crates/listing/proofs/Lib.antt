@@ -5,11 +5,11 @@ pub mod TimesLaws
 pub mod ListedLaws
 pub mod RankLaws
 pub mod NestedLaws
-pub mod DigitLaws
 pub mod LineLaws
 pub mod Statements
 pub mod TellingLaws
 pub mod ReadLaws
+pub mod CallLaws
 pub mod Besides
 pub mod AppendLaws
 pub mod Samples

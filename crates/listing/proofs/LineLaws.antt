@@ -11,6 +11,7 @@ use lib.ListN.{length, replicate}
 use Rattle.numbers.specs.Choice.{pick}
 use Rattle.numbers.specs.Rows.{flat}
 use Rattle.decimals.specs.Decimal.{text, decimal}
+use Rattle.decimals.proofs.DigitLaws.{decimal-digits}
 use Rattle.rows.specs.declared.FieldRow.{FieldRow}
 use Rattle.header.specs.Tables.{parentsOf}
 use Rattle.moves.proofs.Laws.{field-count, header-rooted}
@@ -21,7 +22,6 @@ use Rattle.numbers.proofs.Lists.{each-append, each-weaken}
 use Rattle.listing.specs.Lines.{shownByte, shown, darkWord, line, entryLine, rowIn, darkIn, listing}
 use Rattle.listing.specs.Statements.{OneLineEach, Printable, BytesKept}
 use Rattle.listing.proofs.TimesLaws.{times-append, times-never}
-use Rattle.listing.proofs.DigitLaws.{decimal-digits}
 use Rattle.listing.proofs.RankLaws.{as-many, order-within}
 
 -- a byte that prints as it is
@@ -42,11 +42,11 @@ shown-plain (b ∷ l) = (byte-plain b (ltb b 32) (eqb b 127) refl refl, shown-pl
 
 -- what is shown of bytes that print is they themselves
 
-kept : (l : List ℕ) → Each Plain l → shown l ≡ l
+pub kept : (l : List ℕ) → Each Plain l → shown l ≡ l
 kept [] w = refl
 kept (b ∷ l) w = λ i. bytes-kept b (w .0 .0) (w .0 .1) i ∷ kept l (w .1) i
 
-spaces-plain : (k : ℕ) → Each Plain (replicate k 32)
+pub spaces-plain : (k : ℕ) → Each Plain (replicate k 32)
 spaces-plain zero = tt
 spaces-plain (suc k) = ((omega arith, λ e. omega arith), spaces-plain k)
 

@@ -120,15 +120,15 @@ module _ {up : ℕ → ℕ} {n : ℕ} {rank : ℕ → ℕ} (its : Ranked up n ra
       (λ k _ l. rw (ne-eqb (up k) g (λ w. let e = child-rank k g l (eq-eqb (up k) g w) in let m = its .most k l in omega arith)))
 
   -- the children of g are listed as often as g is
-  children-listed : (left t g : ℕ) → n ≤ left + rank t
+  children-as-often : (left t g : ℕ) → n ≤ left + rank t
       → childrenIn up g (listed up n left t) ≡ repeated (times g (t ∷ listed up n left t)) (childrenIn up g (numbersBelow n))
   unfolding listed childrenIn times repeated
-  children-listed zero t g h =
+  children-as-often zero t g h =
       ⊎-elim
       (λ u. let same = eqb-true t g u in let z : rank t ≡ rank g = ap rank same in rw (u, no-child g (omega arith)))
       (λ u. rw u)
       (which (eqb t g))
-  children-listed (suc left) t g h =
+  children-as-often (suc left) t g h =
       children-joined up g (λ k. pick (eqb (up k) t) (k ∷ listed up n left k) []) n
       ∙ ⊎-elim
       (λ u.
@@ -142,7 +142,7 @@ module _ {up : ℕ → ℕ} {n : ℕ} {rank : ℕ → ℕ} (its : Ranked up n ra
       let e = child-rank k t l s in
       let none : times g (k ∷ listed up n left k) ≡ 0
       = rw (ne-eqb k g (other-rank k g (omega arith))) (let r = listed-none left k g (omega arith) in omega arith) in
-      rw s (ap (λ (r : List ℕ). pick (eqb (up k) g) (k ∷ []) [] ++ r) (children-listed left k g (omega arith) ∙ ap (λ (m : ℕ). repeated m (childrenIn up g (numbersBelow n))) none)))
+      rw s (ap (λ (r : List ℕ). pick (eqb (up k) g) (k ∷ []) [] ++ r) (children-as-often left k g (omega arith) ∙ ap (λ (m : ℕ). repeated m (childrenIn up g (numbersBelow n))) none)))
       (λ s.
       let here : childrenIn up g (pick (eqb (up k) t) (k ∷ listed up n left k) []) ≡ [] = rw s in
       here ∙ rw (ne-eqb (up k) g (λ w. eqb-false (up k) t s (w ∙ sym same))))
@@ -157,7 +157,7 @@ module _ {up : ℕ → ℕ} {n : ℕ} {rank : ℕ → ℕ} (its : Ranked up n ra
       ⊎-elim
       (λ s.
       let e = child-rank k t l s in
-      rw (s, ne-eqb (up k) g (λ w. other (sym (eqb-true (up k) t s) ∙ w))) (children-listed left k g (omega arith)))
+      rw (s, ne-eqb (up k) g (λ w. other (sym (eqb-true (up k) t s) ∙ w))) (children-as-often left k g (omega arith)))
       (λ s. rw s)
       (which (eqb (up k) t)))
       ∙ joined-repeated (λ k. times g (pick (eqb (up k) t) (k ∷ listed up n left k) [])) (childrenIn up g (numbersBelow n)) n
@@ -171,7 +171,7 @@ module _ {up : ℕ → ℕ} {n : ℕ} {rank : ℕ → ℕ} (its : Ranked up n ra
   children-by : (g : ℕ) → times g (n ∷ listed up n n n) ≡ 1 → childrenIn up g (listed up n n n) ≡ childrenIn up g (numbersBelow n)
   children-by g e =
       let z = its .root in
-      children-listed n n g (omega arith)
+      children-as-often n n g (omega arith)
       ∙ ap (λ (m : ℕ). repeated m (childrenIn up g (numbersBelow n))) e
       ∙ repeated-one (childrenIn up g (numbersBelow n))
 

@@ -33,8 +33,8 @@ module _ (parents : List ℕ) where
   rank-root : rank parents (length parents) ≡ 0
   rank-root = rw (eq-eqb (length parents) (length parents) refl)
 
-  holder-top : (k : ℕ) → topLevel parents k ≡ true → holder parents k ≡ length parents
-  holder-top k t = rw t
+  top-on-root : (k : ℕ) → topLevel parents k ≡ true → holder parents k ≡ length parents
+  top-on-root k t = rw t
 
   module _ (rooted : Rooted parents) where
     ends : (f : ℕ) → f < length parents → reaches parents (length parents) f ≡ true
@@ -63,7 +63,7 @@ module _ (parents : List ℕ) where
           next = λ k l.
               rank-field k l
               ∙ ⊎-elim
-              (λ t. ap suc (moves-top parents n k t ∙ sym (ap (rank parents) (holder-top k t) ∙ rank-root)))
+              (λ t. ap suc (moves-top parents n k t ∙ sym (ap (rank parents) (top-on-root k t) ∙ rank-root)))
               (λ t.
               let u : holder parents k ≡ getD parents k 0 = rw t in
               ap suc (moves-up parents n k (ends k l) t .0 ∙ sym (ap (rank parents) u ∙ rank-field (getD parents k 0) (rooted .fields k l))))

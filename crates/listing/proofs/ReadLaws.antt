@@ -6,6 +6,7 @@ use native.Mathlib.Omega.{arith}
 use lib.ListN.{length, replicate, length-append}
 use Rattle.numbers.specs.Rows.{flat}
 use Rattle.decimals.specs.Decimal.{decimal}
+use Rattle.decimals.proofs.DigitLaws.{decimal-some, decimal-digits, decimal-same}
 use Rattle.header.specs.Tables.{parentsOf}
 use Rattle.moves.proofs.Laws.{header-rooted}
 use Rattle.listing.specs.Order.{Entry, order}
@@ -13,7 +14,6 @@ use Rattle.numbers.specs.Lists.{Each}
 use Rattle.numbers.proofs.Lists.{each-weaken}
 use Rattle.listing.specs.Lines.{entryLine, rowIn, darkIn, listing}
 use Rattle.listing.specs.Statements.{ListingTells}
-use Rattle.listing.proofs.DigitLaws.{decimal-some, decimal-digits, decimal-same}
 use Rattle.listing.proofs.LineLaws.{front, Starts, entry-starts}
 use Rattle.listing.proofs.TellingLaws.{order-tells}
 

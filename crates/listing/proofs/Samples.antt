@@ -1,9 +1,8 @@
 -- Worked listings, read by the definitions.
 use Prim.Native.Nat.{ℕ}
 use mathlib.Core.List.{List}
-use mathlib.Core.Path.{_≡_, refl, _∙_}
+use mathlib.Core.Path.{_≡_, refl, ap, _∙_}
 use lib.ListN.{length}
-use borrow.Author.Tests.{le-leb, lt-leb}
 use Rattle.numbers.specs.Numbers.{little}
 use Rattle.numbers.specs.Rows.{flat}
 use Rattle.checksum.specs.Crc.{shifted, bits, byte, fold, crc32}
@@ -23,24 +22,24 @@ use Rattle.reader.specs.Text.{textOf}
 use Rattle.decimals.specs.Decimal.{decimalBy}
 use Rattle.listing.specs.Order.{joined, below, order}
 use Rattle.listing.specs.Lines.{line, entryLine, listing}
-use Rattle.listing.specs.Answers.{fitted, placed, answer, left}
+use Rattle.listing.specs.Answers.{fitted, placed}
 use Rattle.listing.specs.Samples.{ListedAs, vectorHeader, vectorLines, VectorListed, darkHeader, darkLines, DarkListed}
+use Rattle.listing.proofs.CallLaws.{fits-listed, few-refused, fits-placed, few-placed, call-answers, call-leaves}
 
 -- a header is accepted, and its listing is these bytes
-pub record Lists (e bytes : List ℕ) : Type 0 where
+pub record ListingIs (e bytes : List ℕ) : Type 0 where
   pub header : Header
   pub stop : ℕ
   pub reads : headerOf e ≡ found header stop
   pub lines : listing e (header .lists) ≡ bytes
 
-listed-as : (e bytes : List ℕ) → Lists e bytes → ListedAs e bytes
-unfolding answer left fitted placed
-listed-as e bytes l out out′ r call = (
-  λ fits. (call .answers ∙ rw (l .reads, l .lines, le-leb (length bytes) (length out) fits), call .bytesAre ∙ rw (l .reads, l .lines, le-leb (length bytes) (length out) fits)),
-  λ few. (call .answers ∙ rw (l .reads, l .lines, lt-leb (length bytes) (length out) few), call .bytesAre ∙ rw (l .reads, l .lines, lt-leb (length bytes) (length out) few)),
-)
+listed-as : (e bytes : List ℕ) → ListingIs e bytes → ListedAs e bytes
+listed-as e bytes l out out′ r call =
+    let answers = call-answers (l .reads) call ∙ ap (fitted (length out)) (l .lines) in
+    let leaves = call-leaves (l .reads) call ∙ ap (placed out) (l .lines) in
+    (λ fits. (answers ∙ fits-listed (length out) bytes fits, leaves ∙ fits-placed out bytes fits), λ few. (answers ∙ few-refused (length out) bytes few, leaves ∙ few-placed out bytes few))
 
-computed : Lists vectorHeader vectorLines × Lists darkHeader darkLines
+computed : ListingIs vectorHeader vectorLines × ListingIs darkHeader darkLines
 unfolding versioned opened recordOf listOf items number judged stringOf wellFormed goesOn due frameSize recordHead listStop countJudged little crc32 fold byte bits shifted features headerOf chained payload texts lists columnsAfter aliasesAfter repetition fieldHead fieldTexts field known column allReach meets dark decimalBy joined below order line entryLine listing flat textOf
 computed = (record { header = _; stop = _; reads = refl; lines = refl }, record { header = _; stop = _; reads = refl; lines = refl })
 

@@ -3,13 +3,10 @@ use Prim.Native.Nat.{ℕ, zero, suc, _+_, _*_, _≤_, _<_}
 use mathlib.Core.Path.{_≡_, refl, sym, _∙_}
 use mathlib.Core.List.{List, [], _∷_}
 use native.Mathlib.Omega.{arith}
-use borrow.Author.Tests.{le-leb}
 use lib.ListN.{length, length-append}
 use Rattle.numbers.specs.Rows.{flat}
-use Rattle.wire.specs.Reading.{Step, found}
 use Rattle.chain_moves.specs.Moves.{moves, totalMoves, allMoves}
 use Rattle.chain_moves.specs.Distances.{sumBelow}
-use Rattle.header.specs.Header.{Header}
 use Rattle.header.specs.Tables.{headerOf, parentsOf}
 use Rattle.header.proofs.HeaderLaws.{fields-few}
 use Rattle.moves.proofs.Laws.{field-count, header-rooted, answer-sum}
@@ -17,14 +14,14 @@ use Rattle.listing.specs.Order.{Entry, order}
 use Rattle.numbers.specs.Lists.{Each}
 use Rattle.listing.specs.Listed.{fieldsIn}
 use Rattle.listing.specs.Lines.{characters, entryLine, rowIn, darkIn, listing}
-use Rattle.listing.specs.Answers.{fitted, answer}
-use Rattle.listing.specs.declared.ListAnswer.the-variants.{Listed}
+use Rattle.listing.proofs.CallLaws.{fits-listed, call-answers}
+use Rattle.listing.proofs.TimesLaws.{sumOver}
 use Rattle.listing.proofs.RankLaws.{order-within}
 use Rattle.listing.proofs.Statements.{order-levels}
 use Rattle.listing_length.specs.Statements.{ListingLength, RoomEnough}
-use Rattle.listing_length.proofs.Sums.{sumOver, order-sum}
+use Rattle.listing_length.proofs.Sums.{order-sum}
 use Rattle.listing_length.proofs.Records.{least, fields-inside}
-use Rattle.listing_length.proofs.Lines.{line-length, characters-length}
+use Rattle.listing_length.proofs.Lines.{line-most, characters-length}
 
 -- lines that are each no longer than a number for its field
 lines-length : (w : Entry → List ℕ) (most level : ℕ → ℕ) (n : ℕ) → ((x : Entry) → x .field < n → x .level ≡ level (x .field) → length (w x) ≤ most (x .field))
@@ -56,7 +53,7 @@ listing-length e h p w =
     (λ x k is.
     let name = rowIn l (x .field) .texts .name in
     let type = rowIn l (x .field) .texts .«type_name» in
-    let a = line-length (x .level) (x .field) (characters e name) (characters e type) (darkIn l (x .field)) (omega arith) in
+    let a = line-most (x .level) (x .field) (characters e name) (characters e type) (darkIn l (x .field)) (omega arith) in
     let b = characters-length e name in
     let c = characters-length e type in
     omega arith)
@@ -66,13 +63,9 @@ listing-length e h p w =
     let inside = rw (← count) at (fields-inside e w) in
     omega arith
 
-listed-fits : (room : ℕ) (e : List ℕ) {x : Step Header} {h : Header} {p : ℕ} → x ≡ found h p → length (listing e (h .lists)) ≤ room
-    → answer room e x ≡ Listed (length (listing e (h .lists)))
-unfolding answer fitted
-listed-fits room e {h = h} reads fits = rw (reads, le-leb (length (listing e (h .lists))) room fits)
-
 pub room-enough : RoomEnough
 room-enough e out out′ total r counts call room =
     let (h, p, reads, sum) = answer-sum (headerOf e) (sym (counts .answers)) in
     let most = listing-length e h p reads in
-    (length (listing e (h .lists)), call .answers ∙ listed-fits (length out) e reads (omega arith))
+    let bytes = listing e (h .lists) in
+    (length bytes, call-answers reads call ∙ fits-listed (length out) bytes (omega arith))

@@ -12,13 +12,9 @@ use Rattle.rows.specs.Tables.{fieldRow, firstRows}
 use Rattle.rows.proofs.TableLaws.{flat-join}
 use Rattle.listing.specs.Entries.{entryRow}
 use Rattle.listing.specs.Lines.{shownByte, shown, darkWord, line, characters, entryLine, marked}
+use Rattle.listing.proofs.LineLaws.{kept, spaces-plain}
 use Rattle.listing_lines.specs.Line.{lineOf, lineBytes}
 use Rattle.listing_lines.specs.declared.line.Line.{Line}
-
--- spaces print as they are
-shown-spaces : (k : ℕ) → shown (replicate k 32) ≡ replicate k 32
-shown-spaces zero = refl
-shown-spaces (suc k) = ap (λ (r : List ℕ). 32 ∷ r) (shown-spaces k)
 
 -- a byte of what is shown
 pub shown-at : (bytes : List ℕ) (i : ℕ) → i < length bytes → getD (shown bytes) i 0 ≡ shownByte (getD bytes i 0)
@@ -32,7 +28,7 @@ pub line-pieces : (level field : ℕ) (name type : List ℕ) (d : Bool)
     ≡ line level field name type d
 unfolding line
 line-pieces level field name type d =
-    simp (map-append, shown-spaces) (sym (append-assoc (replicate (2 * level) 32 ++ shown (decimal field) ++ shown (text " ") ++ shown name ++ shown (text " ") ++ shown type) (shown (darkWord d)) (text "\n")))
+    simp (map-append, kept (replicate (2 * level) 32) (spaces-plain (2 * level))) (sym (append-assoc (replicate (2 * level) 32 ++ shown (decimal field) ++ shown (text " ") ++ shown name ++ shown (text " ") ++ shown type) (shown (darkWord d)) (text "\n")))
 
 -- how long a line is
 pub line-length : (e : List ℕ) (l : Line)

@@ -1,26 +1,19 @@
 -- Lines, listings and the bytes that calls write are text.
 use Prim.Native.Nat.{ℕ, zero, suc, _*_}
-use mathlib.Core.Path.{_≡_, refl, sym, ap, subst, _∙_}
+use mathlib.Core.Path.{sym, subst}
 use mathlib.Core.Bool.{Bool, true, false}
 use mathlib.Core.List.{List}
 use native.Mathlib.Omega.{arith}
-use lib.Dec.{leb}
-use lib.ListN.{length, take, drop, replicate}
-use lib.Seq.{take-at}
+use lib.ListN.{replicate}
 use Rattle.numbers.proofs.Lists.{each-weaken}
-use Rattle.numbers.specs.Choice.{pick}
-use Rattle.numbers.specs.Rows.{over}
 use Rattle.decimals.specs.Decimal.{text, decimal}
+use Rattle.decimals.proofs.DigitLaws.{decimal-digits}
 use Rattle.utf8.specs.Scalars.{Text}
 use Rattle.utf8.proofs.Exactly.{well-formed-exactly}
-use Rattle.wire.specs.Reading.{Step, found, refused}
-use Rattle.header.specs.Header.{Header}
-use Rattle.header.specs.Tables.{headerOf, parentsOf}
+use Rattle.header.specs.Tables.{parentsOf}
 use Rattle.listing.specs.Order.{order}
 use Rattle.listing.specs.Lines.{darkWord, line, entryLine, rowIn, darkIn, listing}
-use Rattle.listing.specs.Answers.{fitted, placed, answer, left}
-use Rattle.listing.specs.declared.ListAnswer.the-variants.{Listed, Refused}
-use Rattle.listing.proofs.DigitLaws.{decimal-digits}
+use Rattle.listing.proofs.CallLaws.{call-listed}
 use Rattle.listing_text.specs.Statements.{ListingIsText, ListingWellFormed, WrittenIsText}
 use Rattle.listing_text.proofs.TextLaws.{text-none, text-append, text-flat, text-one, text-ascii}
 use Rattle.listing_text.proofs.ShownLaws.{shown-text}
@@ -55,20 +48,7 @@ listing-is-text e h p reads =
 pub listing-well-formed : ListingWellFormed
 listing-well-formed e h p reads = well-formed-exactly .encodes (listing e (h .lists)) .1 (listing-is-text e h p reads)
 
--- bytes that fitted stand in front
-placed-front : (out bytes : List ℕ) (n : ℕ) → Listed n ≡ fitted (length out) bytes → take n (placed out bytes) ≡ bytes
-unfolding fitted placed
-placed-front out bytes n = by (leb (length bytes) (length out))
-  where
-    by : (b : Bool) → Listed n ≡ pick b (Listed (length bytes)) (Refused 20) → take n (pick b (over bytes out) out) ≡ bytes
-    by true e = let same : length bytes ≡ n = cc in take-at bytes (drop (length bytes) out) n same
-    by false e = absurd (let z : _≡_ {A = ℕ} 0 1 = cc in omega arith)
-
 pub written-is-text : WrittenIsText
-unfolding answer left
-written-is-text e out out′ n call = by (headerOf e) refl (call .answers) (call .bytesAre)
-  where
-    by : (x : Step Header) → headerOf e ≡ x → Listed n ≡ answer (length out) e x → out′ ≡ left out e x → Text (take n out′)
-    by (found h p) reads is held =
-        subst Text (sym (ap (take n) held ∙ placed-front out (listing e (h .lists)) n is)) (listing-is-text e h p reads)
-    by (refused f) reads is held = absurd (let z : _≡_ {A = ℕ} 0 1 = cc in omega arith)
+written-is-text e out out′ n call =
+    let c = call-listed e out out′ n call in
+    subst Text (sym (c .front)) (listing-is-text e (c .header) (c .place) (c .reads))

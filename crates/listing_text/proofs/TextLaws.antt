@@ -1,12 +1,13 @@
 -- Laws of text: texts one after the other are text, and so are ASCII bytes.
 use Prim.Native.Nat.{ℕ, _<_}
-use mathlib.Core.Path.{_≡_, refl, sym, ap₂, _∙_}
+use mathlib.Core.Path.{_≡_, refl, ap₂, _∙_}
 use mathlib.Core.Bool.{true}
-use mathlib.Core.List.{List, [], _∷_, _++_, append-assoc}
+use mathlib.Core.List.{List, [], _∷_, _++_}
 use native.Mathlib.Omega.{arith}
 use Rattle.numbers.specs.Lists.{Each}
 use Rattle.numbers.specs.Rows.{flat}
 use Rattle.numbers.proofs.Choice.{both-true}
+use Rattle.rows.proofs.TableLaws.{flat-join}
 use Rattle.utf8.specs.Scalars.{scalar, scalars, encoded, Text}
 use Rattle.utf8.proofs.Bits.{scalar-low, encoded-one}
 
@@ -14,11 +15,6 @@ scalars-append : (cs ds : List ℕ) → scalars cs ≡ true → scalars ds ≡ t
 unfolding scalars
 scalars-append [] ds good more = more
 scalars-append (c ∷ cs) ds good more = let (first, rest) = both-true (scalar c) (scalars cs) good in rw first (scalars-append cs ds rest more)
-
-encoded-append : (cs ds : List ℕ) → flat encoded (cs ++ ds) ≡ flat encoded cs ++ flat encoded ds
-unfolding flat
-encoded-append [] ds = refl
-encoded-append (c ∷ cs) ds = rw (encoded-append cs ds) (sym (append-assoc (encoded c) (flat encoded cs) (flat encoded ds)))
 
 pub text-none : Text []
 unfolding scalars flat
@@ -29,7 +25,7 @@ text-append a b =
     record {
       values = a .values ++ b .values;
       good = scalars-append (a .values) (b .values) (a .good) (b .good);
-      is = encoded-append (a .values) (b .values) ∙ ap₂ (λ (x y : List ℕ). x ++ y) (a .is) (b .is);
+      is = flat-join encoded (a .values) (b .values) ∙ ap₂ (λ (x y : List ℕ). x ++ y) (a .is) (b .is);
     }
 
 pub text-flat : {A : Type 0} (w : A → List ℕ) → ((x : A) → Text (w x)) → (l : List A) → Text (flat w l)

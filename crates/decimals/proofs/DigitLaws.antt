@@ -1,4 +1,4 @@
--- The decimal digits of a number tell it. Assumes nothing.
+-- The decimal digits of a number tell it, and how many there are. Assumes nothing.
 use Prim.Native.Nat.{ℕ, zero, suc, _+_, _*_, _-_, _/_, _%_, _≤_, _<_}
 use mathlib.Core.Path.{_≡_, refl, sym, ap, _∙_}
 use mathlib.Core.Logic.{⊎-elim}
@@ -51,3 +51,23 @@ decimal-digits (suc steps) n l =
 
 pub decimal-same : (n m : ℕ) → decimal n ≡ decimal m → n ≡ m
 decimal-same n m e = sym (decimal-value n n) ∙ ap (value 0) e ∙ decimal-value m m
+
+-- a number below 1000 has at most three digits
+
+one-digit : (steps n : ℕ) → n < 10 → length (decimalBy steps n) ≤ 1
+unfolding decimalBy
+one-digit zero n l = omega arith
+one-digit (suc steps) n l = ⊎-elim (λ t. rw t (omega arith)) (λ t. absurd (omega (arith, ltb-false n 10 t))) (which (ltb n 10))
+
+digit-more : (most count : ℕ) → 1 ≤ count → ((steps n : ℕ) → n < most → length (decimalBy steps n) ≤ count)
+    → (steps n : ℕ) → n < 10 * most → length (decimalBy steps n) ≤ suc count
+unfolding decimalBy
+digit-more most count some fewer zero n l = omega arith
+digit-more most count some fewer (suc steps) n l =
+    ⊎-elim
+    (λ t. rw t (omega arith))
+    (λ t. rw t (let r = fewer steps (n / 10) (omega arith) in omega (arith, length-append (decimalBy steps (n / 10)) ((48 + n % 10) ∷ []))))
+    (which (ltb n 10))
+
+pub three-digits : (n : ℕ) → n < 1000 → length (decimal n) ≤ 3
+three-digits n l = digit-more 100 2 (omega arith) (digit-more 10 1 (omega arith) one-digit) n n (omega arith)
