@@ -29,7 +29,8 @@ fn holder_of(parents: &[u16], n: usize, k: usize) -> usize
     parent
 }
 
-// The links of n fields; n stands for no field. From the last field down, so that the first that was met is the last that is linked.
+// The links of n fields; n stands for no field. From the last field down: the lowest that hangs on a field so far is the next sibling of the one
+// that is linked now, which then takes its place.
 pub fn link_fields(parents: &[u16], n: usize) -> [u16; ALL_LINKS]
     requires { ⌜ (n ≤ mostFields) × (n ≤ length (now parents)) ⌝ }
     requires { ⌜ Inside (now parents) n ⌝ }

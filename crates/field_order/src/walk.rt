@@ -33,7 +33,8 @@ fn list_field(
     list_children(links, n, left, level + 1, k, entries, at + 1)
 }
 
-// Lists what hangs on `above`, smaller numbers first, from row `at` of the entries on; answers the row after them.
+// Lists what hangs on `above`, smaller numbers first, from row `at` of the entries on; answers the row after them. `left` is how many fields may
+// still stand below one another: where none is left, all n stand above.
 pub fn list_children(
     links: &[u16],
     n: usize,

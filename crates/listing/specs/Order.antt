@@ -36,7 +36,7 @@ below up n (suc left) level above = joined (λ k. hanging up level above (below 
 abbrev pub branch : (ℕ → ℕ) → ℕ → ℕ → ℕ → ℕ → ℕ → List Entry
 branch up n left level above k = hanging up level above (below up n left (suc level) k) k
 
--- the fields whose parents these are: top-level fields first, each followed by its children, and so on
+-- all fields whose parents these are: each top-level field, followed by those that hang on it
 unfoldable pub order : List ℕ → List Entry
 order parents = below (holder parents) (length parents) (length parents) 0 (length parents)
 
