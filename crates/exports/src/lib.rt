@@ -7,12 +7,12 @@ ghost use Rattle.footer.specs.Tables.{footerBeside};
 ghost use Rattle.page_list.specs.Tables.{pageListBeside};
 ghost use Rattle.pairing.specs.Paired.{pairedBeside};
 ghost use Rattle.writing.specs.Answers.{headerToWrite, footerToWrite, pageListToWrite};
-ghost use Rattle.page_rules.specs.Page.{decodeOutcome, decoded};
+ghost use Rattle.page_rules.specs.Page.{asks, decodeOutcome, decoded};
 ghost use Rattle.outcome.specs.Outcome.{codeOf};
 ghost use Rattle.envelope_calls.specs.Calls.{HeaderCall, MovesCall, FooterCall, PageListCall};
 ghost use Rattle.list_calls.specs.Calls.{ListCall};
 ghost use Rattle.write_calls.specs.Calls.{WriteCall, textsAt};
-ghost use Rattle.page_calls.specs.Calls.{EncodeCall, asks};
+ghost use Rattle.page_calls.specs.Calls.{EncodeCall, ColumnCall};
 ghost use Rattle.exports.specs.Calls.{BytesCall, isUtf8};
 
 #[no_mangle]
@@ -195,4 +195,17 @@ pub extern "C" fn rnt_encode_page(
     ensures { λ r. ⌜ EncodeCall «column_type» elements checksum (now (words .entry)) start (now (page .entry)) (now (page .exit)) (now (result .entry)) (now (result .exit)) r ⌝ }
 {
     page_calls::encode_page(column_type, elements, checksum, words, start, page, result)
+}
+
+#[no_mangle]
+pub extern "C" fn rnt_decode_column(
+    column_type: u32,
+    pages: &[u64],
+    file: &[u8],
+    words: &mut [u64],
+    result: &mut [u64],
+) -> u32
+    ensures { λ r. ⌜ ColumnCall «column_type» (now (pages .entry)) (now (file .entry)) (now (words .entry)) (now (words .exit)) (now (result .entry)) (now (result .exit)) r ⌝ }
+{
+    page_calls::decode_column(column_type, pages, file, words, result)
 }

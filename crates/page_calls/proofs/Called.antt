@@ -14,7 +14,7 @@ use Rattle.page_rules.specs.declared.PageAnswer.the-variants.{Accepted as PageA
 use Rattle.page_rules.specs.Page.{outcomeOf as pageOutcome, readable, refuse, decodeOutcome, decoded, encodeOutcome, encoded}
 use Rattle.answers.specs.Handed.{shortResult}
 use Rattle.answers.proofs.HandedLaws.{given-room, given-short, hands-nothing, tells}
-use Rattle.page_calls.specs.Calls.{asks, EncodeCall}
+use Rattle.page_calls.specs.Calls.{EncodeCall, ColumnCall}
 
 -- a type that no 16 bits hold is unknown, and refused before all else
 module _ (t : ℕ) (high : 65535 < t) where

@@ -1,10 +1,14 @@
-// The calls on pages, with numbers and lent slices alone: what each answers is one number and, where a page is encoded, a word of a lent result.
+// The calls on pages, with numbers and lent slices alone: what each answers is one number and, where a page is encoded or a column decoded, a word
+// of a lent result.
 use answers::RESULT_TOO_SHORT;
+use column_rules::ColumnAnswer;
 ghost use mathlib.Core.Path.{_≡_};
 ghost use lib.ListN.{length};
 ghost use Rattle.outcome.specs.Outcome.{codeOf};
-ghost use Rattle.page_rules.specs.Page.{decodeOutcome, decoded};
-ghost use Rattle.page_calls.specs.Calls.{asks, EncodeCall};
+ghost use Rattle.numbers.specs.Rows.{put};
+ghost use Rattle.page_rules.specs.Page.{asks, decodeOutcome, decoded};
+ghost use Rattle.column_rules.specs.Column.{outcomeOf};
+ghost use Rattle.page_calls.specs.Calls.{EncodeCall, ColumnCall};
 
 // A column type has two bytes. Any number above is unknown, which is refused before all else: 23, in envelope 4.
 const LARGEST_TYPE: u32 = 65535;
@@ -64,4 +68,43 @@ pub fn encode_page(
         page,
     );
     answers::tell_page(answer, result)
+}
+
+// The index of the refused page, else the number of pages, is handed over whatever the answer. A type above 16 bits is unknown, as the largest of
+// 16 bits is: where there is a page, it is refused for that.
+pub fn decode_column(
+    column_type: u32,
+    pages: &[u64],
+    file: &[u8],
+    words: &mut [u64],
+    result: &mut [u64],
+) -> u32
+    ensures { λ r. ⌜ ColumnCall «column_type» (now (pages .entry)) (now (file .entry)) (now (words .entry)) (now (words .exit)) (now (result .entry)) (now (result .exit)) r ⌝ }
+{
+    if result.len() < 1 {
+        return RESULT_TOO_SHORT;
+    }
+    let narrow = if LARGEST_TYPE < column_type {
+        LARGEST_TYPE
+    } else {
+        column_type
+    };
+    let answer = column_decoding::decode_column(narrow as u16, pages, file, words);
+    tell_column(answer, result)
+}
+
+fn tell_column(answer: ColumnAnswer, result: &mut [u64]) -> u32
+    ensures answers { λ r. ⌜ r ≡ codeOf (outcomeOf answer) ⌝ }
+    ensures leaves { λ _. ⌜ now (result .exit) ≡ put (now (result .entry)) 0 (outcomeOf answer .counts) ⌝ }
+{
+    match answer {
+        ColumnAnswer::Decoded(pages) => {
+            rows::put_words(result, 0, &[pages as u64]);
+            0
+        }
+        ColumnAnswer::Refused(number, page) => {
+            rows::put_words(result, 0, &[page as u64]);
+            1024 + number as u32
+        }
+    }
 }

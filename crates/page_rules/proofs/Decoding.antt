@@ -46,6 +46,18 @@ decode-numbers t n checksum page words start =
     (unless-by (unusedClear t n page) 24 (20 ∷ []) (accept n) _
     (unless-by (leb (start + n) words) 20 [] (accept n) (accept n) (inl refl)))))
 
+-- the first tests, whatever comes after them
+
+module _ (t n : ℕ) (rest : Outcome) where
+  pub asked-23 : readable t ≡ false → refuse 23 ≡ asked t n rest
+  asked-23 r = simp r
+
+  pub asked-10 : readable t ≡ true → mostElements < n → refuse 10 ≡ asked t n rest
+  asked-10 r h = simp (r, lt-leb n mostElements h)
+
+  pub asked-passed : readable t ≡ true → n ≤ mostElements → rest ≡ asked t n rest
+  asked-passed r h = simp (r, le-leb n mostElements h)
+
 -- the tests of a decoding call that have passed
 
 pub record Sized (t n : ℕ) (checksum : Bool) (page : List ℕ) : Type 0 where
@@ -59,11 +71,11 @@ module _ (t n : ℕ) (checksum : Bool) (page : List ℕ) (words start : ℕ) whe
 
   pub refused-23 : readable t ≡ false → refuse 23 ≡ answer
   unfolding decodeOutcome
-  refused-23 r = simp r
+  refused-23 r = asked-23 t n _ r
 
   pub refused-10 : readable t ≡ true → mostElements < n → refuse 10 ≡ answer
   unfolding decodeOutcome
-  refused-10 r h = simp (r, lt-leb n mostElements h)
+  refused-10 r h = asked-10 t n _ r h
 
   pub refused-21 : readable t ≡ true → n ≤ mostElements → (length page ≡ sizeOf t n + trailer checksum → ⊥) → refuse 21 ≡ answer
   unfolding decodeOutcome

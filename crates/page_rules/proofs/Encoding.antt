@@ -25,7 +25,7 @@ use Rattle.coding.proofs.Places.{length-coded, length-laidOut}
 use Rattle.page_rules.proofs.Types.{of-bytes, bit-size}
 use Rattle.numbers.proofs.Choice.{both-true}
 use Rattle.page_rules.proofs.Laid.{size-of}
-use Rattle.page_rules.proofs.Decoding.{taken, unless-by, asked-by}
+use Rattle.page_rules.proofs.Decoding.{asked-23, asked-10, taken, unless-by, asked-by}
 
 pub record Asked (t n : ℕ) : Type 0 where
   pub is-readable : readable t ≡ true
@@ -37,11 +37,11 @@ module _ (t n : ℕ) (checksum : Bool) (words : List ℕ) (start room : ℕ) whe
 
   pub refused-23 : readable t ≡ false → refuse 23 ≡ answer
   unfolding encodeOutcome
-  refused-23 r = simp r
+  refused-23 r = asked-23 t n _ r
 
   pub refused-10 : readable t ≡ true → mostElements < n → refuse 10 ≡ answer
   unfolding encodeOutcome
-  refused-10 r h = simp (r, lt-leb n mostElements h)
+  refused-10 r h = asked-10 t n _ r h
 
   module _ (a : Asked t n) where
     pub refused-words : leb (start + n) (length words) ≡ false → refuse 20 ≡ answer

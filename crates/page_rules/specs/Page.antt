@@ -45,6 +45,10 @@ RefusedBy (k ∷ ks) o = (o ≡ refuse k) ⊎ RefusedBy ks o
 abbrev pub readable : ℕ → Bool
 readable t = both (known t) (not (eqb t 3))
 
+-- any number other than 0 asks for a checksum
+abbrev pub asks : ℕ → Bool
+asks n = not (eqb n 0)
+
 -- the most elements in one page call
 abbrev pub mostElements : ℕ
 mostElements = 131072

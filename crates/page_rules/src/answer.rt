@@ -5,7 +5,7 @@ ghost use Prim.Native.Nat.{ℕ, _+_, _*_, _-_, _/_, _%_, _^_, _<_, _≤_};
 ghost use lib.ListN.{length, take, drop};
 ghost use lib.Dec.{leb};
 ghost use Rattle.numbers.specs.Numbers.{trailer};
-ghost use Rattle.page_rules.specs.Page.{readable, mostElements, sizeOf, unusedClear, checksumRight, outcomeOf, decodeOutcome, encodeOutcome};
+ghost use Rattle.page_rules.specs.Page.{readable, mostElements, sizeOf, unusedClear, checksumRight, outcomeOf, refuse, asked, decodeOutcome, encodeOutcome};
 ghost use Rattle.coding.specs.Layout.{fit, FitsAs};
 use crate::PageAnswer;
 use crate::number::most;
@@ -131,6 +131,19 @@ pub fn decode_answer(
     } else {
         PageAnswer::Refused(20)
     }
+}
+
+// The answer on a page whose bytes are not where they are said to be: 18, but what is asked of type and elements comes first.
+pub fn outside_answer(column_type: u64, n: usize) -> PageAnswer
+    ensures { λ r. ⌜ outcomeOf r ≡ asked «column_type» n (refuse 18) ⌝ }
+{
+    if !is_readable(column_type) {
+        return PageAnswer::Refused(23);
+    }
+    if MOST_ELEMENTS < n {
+        return PageAnswer::Refused(10);
+    }
+    PageAnswer::Refused(18)
 }
 
 pub fn encode_answer(

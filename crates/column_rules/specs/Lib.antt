@@ -1,0 +1,3 @@
+pub mod Column
+pub mod SingleCalls
+pub mod Statements
