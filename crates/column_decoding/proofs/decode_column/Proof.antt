@@ -61,7 +61,7 @@ same-length c = c .before .before .before .before .before .decode-one .kept .1 .
 returns-2 : tie.Need-returns-2 Inv-loop μ-loop
 returns-2 c = let a = c .before .before .before .before .before .before .before .before .before .before .before .before .before .before .args in
     let e = reached-refused (a .column-type) (now (a .file)) (now (a .pages)) (now (a .out)) (c .before .before .before .before .before .before .before .before .before .loop .inv) (c .before .before .before .before .before .before .before .before .loop-test .taken) (c .before .before .before .before .before .before .before .page-at .ensures)
-        (sym (ap outcomeOf (c .before .number .given .1)) ∙ c .before .before .before .before .before .decode-one .ensures .0) (c .before .before .before .before .before .decode-one .ensures .1) (omega arith) in
+    (sym (ap outcomeOf (c .before .number .given .1)) ∙ c .before .before .before .before .before .decode-one .ensures .0) (c .before .before .before .before .before .decode-one .ensures .1) (omega arith) in
     (ap (λ (d : Decoding). d .outcome) e, ap (λ (d : Decoding). d .words) e)
 
 same-length-2 : tie.Need-same-length-2 Inv-loop μ-loop

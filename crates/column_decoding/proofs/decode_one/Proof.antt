@@ -34,7 +34,7 @@ outside-answer-requires c κs = search needs
 returns : tie.Need-returns
 returns c = let a = c .before .before .before .before .before .before .args in
     let o = is-outside (a .column-type) (now (a .file)) (a .page) (now (a .out)) (a .start)
-        (sym (verdict-inside (now (a .file)) (a .page) _ _ (c .before .before .before .trailer-size .ensures) (c .before .before .in-file .ensures)) ∙ ne-eqb _ 0 (c .before .if1 .taken)) in
+    (sym (verdict-inside (now (a .file)) (a .page) _ _ (c .before .before .before .trailer-size .ensures) (c .before .before .in-file .ensures)) ∙ ne-eqb _ 0 (c .before .if1 .taken)) in
     (c .outside-answer .ensures ∙ o .0, o .1)
 
 add-to : tie.Need-add-to
