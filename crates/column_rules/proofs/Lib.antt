@@ -1,2 +1,5 @@
 pub mod TurnLaws
 pub mod Ends
+pub mod FrontRows
+pub mod Statements
+pub mod SingleCalls

@@ -14,7 +14,7 @@ use borrow.Author.Tests.{leb-true}
 use Rattle.numbers.specs.Choice.{pick}
 use Rattle.numbers.specs.Rows.{over}
 use Rattle.numbers.proofs.Choice.{which, clash}
-use Rattle.outcome.specs.Outcome.{Outcome, isAccepted}
+use Rattle.outcome.specs.Outcome.{Outcome, isAccepted, codeOf}
 use Rattle.page_rules.specs.Page.{accept, refuse, unless, asked, readable, mostElements, RefusedBy, DecodeNumbers, decodeOutcome, decoded, elements}
 use Rattle.page_rules.proofs.Laid.{length-elements}
 use Rattle.page_rules.proofs.Decoding.{asked-23, asked-10, asked-passed, asked-by, taken, decodes, decode-numbers, decoded-accepted, decoded-refused}
@@ -123,6 +123,21 @@ module _ (t : ℕ) (file : List ℕ) (p : ColumnPage) (old : List ℕ) (start : 
       by : (b : Bool) → inside file p ≡ b → left ≡ old
       by true h = let s = is-single h in s .1 ∙ sym (decoded-refused t n (p .checksum) (pageBytes file p) old start (ap isAccepted (sym (s .0)) ∙ e))
       by false h = is-outside h .1
+
+  -- the one number of its answer
+  pub accepted-code : isAccepted answer ≡ true → codeOf answer ≡ 0
+  accepted-code e = by page-numbers
+    where
+      by : (answer ≡ accept n) ⊎ RefusedBy inColumn answer → codeOf answer ≡ 0
+      by (inl a) = ap codeOf a
+      by (inr r) = clash e (ap isAccepted (by-number inColumn answer r))
+
+  pub refused-code : (i : ℕ) → isAccepted answer ≡ false → codeOf answer ≡ codeOf (refuseAt (answer .number) i)
+  refused-code i e = by page-numbers
+    where
+      by : (answer ≡ accept n) ⊎ RefusedBy inColumn answer → codeOf answer ≡ codeOf (refuseAt (answer .number) i)
+      by (inl a) = clash (ap isAccepted a) e
+      by (inr r) = ap codeOf (by-number inColumn answer r)
 
   -- the pages from this one on
 
