@@ -1,7 +1,7 @@
 -- Where the pages in turn end: which of them are accepted, what ends them, and the words that they leave.
 -- Assumes nothing.
-use Prim.Native.Nat.{ℕ, zero, suc, _+_, _<_, _≤_}
-use mathlib.Core.Path.{_≡_, refl, sym, ap, _∙_, subst}
+use Prim.Native.Nat.{ℕ, suc, _+_, _<_, _≤_}
+use mathlib.Core.Path.{_≡_, refl, sym, ap, _∙_}
 use mathlib.Core.Bool.{Bool, true, false}
 use mathlib.Core.List.{List, [], _∷_, _++_}
 use mathlib.Core.Logic.{_⊎_, inl, inr}
@@ -16,7 +16,7 @@ use Rattle.page_rules.proofs.Laid.{length-left}
 use Rattle.column_rules.specs.declared.ColumnPage.{ColumnPage}
 use Rattle.column_rules.specs.Column.{acceptAll, refuseAt, pageOutcome, pageDecoded, Decoding, indexOf, inTurn}
 use Rattle.column_rules.specs.Statements.{inColumn, RefusedAt, pageElements}
-use Rattle.column_rules.proofs.TurnLaws.{Taken, page-numbers, page-accepted, page-refused, turn-accepted, turn-refused, one-after-other}
+use Rattle.column_rules.proofs.TurnLaws.{page-numbers, page-accepted, turn-accepted, turn-refused, one-after-other}
 
 -- a page that is refused by one of some numbers ends the pages with it
 refused-at : (ks : List ℕ) (o : Outcome) (i : ℕ) (words : List ℕ) → RefusedBy ks o → RefusedAt ks i (record { outcome = refuseAt (o .number) i; words = words })

@@ -3,3 +3,4 @@ pub mod Ends
 pub mod FrontRows
 pub mod Statements
 pub mod SingleCalls
+pub mod Samples

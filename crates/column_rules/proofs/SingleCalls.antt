@@ -1,6 +1,6 @@
 -- One call on a column does what single calls made in turn do.
 -- Assumes nothing.
-use Prim.Native.Nat.{ℕ, suc, _+_, _*_}
+use Prim.Native.Nat.{ℕ, suc, _+_}
 use mathlib.Core.Path.{_≡_, refl, sym, ap, _∙_, subst, transport}
 use mathlib.Core.Bool.{Bool, true, false}
 use mathlib.Core.List.{List, [], _∷_}
@@ -8,10 +8,10 @@ use native.Mathlib.Omega.{arith}
 use lib.ListN.{length}
 use borrow.Author.Tests.{eq-eqb}
 use Rattle.numbers.proofs.Choice.{clash, is-false}
-use Rattle.outcome.specs.Outcome.{Outcome, isAccepted, codeOf}
+use Rattle.outcome.specs.Outcome.{isAccepted, codeOf}
 use Rattle.column_rules.specs.declared.ColumnPage.{ColumnPage}
-use Rattle.column_rules.specs.Column.{refuseAt, inside, columnPages, pageOutcome, pageDecoded, Decoding, indexOf, inTurn}
-use Rattle.column_rules.specs.SingleCalls.{SingleCall, SingleCalls, finished, goesOn, stops, outside, CallsInTurn, OneCallIsSingleCalls}
+use Rattle.column_rules.specs.Column.{inside, columnPages, pageOutcome, pageDecoded, Decoding, indexOf, inTurn}
+use Rattle.column_rules.specs.SingleCalls.{SingleCalls, finished, goesOn, stops, outside, CallsInTurn, OneCallIsSingleCalls}
 use Rattle.column_rules.proofs.TurnLaws.{is-single, is-outside, page-accepted, page-refused, accepted-code, refused-code, turn-accepted, turn-refused}
 use Rattle.column_rules.proofs.Statements.{few-pages}
 

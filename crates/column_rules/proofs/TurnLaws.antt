@@ -10,16 +10,15 @@ use native.Mathlib.Omega.{arith}
 use lib.Dec.{leb}
 use lib.ListN.{length, take, drop, length-append}
 use lib.Seq.{take-at, drop-at, drop-drop, length-take-le}
-use borrow.Author.Tests.{leb-true}
 use Rattle.numbers.specs.Choice.{pick}
 use Rattle.numbers.specs.Rows.{over}
-use Rattle.numbers.proofs.Choice.{which, clash}
+use Rattle.numbers.proofs.Choice.{clash}
 use Rattle.outcome.specs.Outcome.{Outcome, isAccepted, codeOf}
 use Rattle.page_rules.specs.Page.{accept, refuse, unless, asked, readable, mostElements, RefusedBy, DecodeNumbers, decodeOutcome, decoded, elements}
 use Rattle.page_rules.proofs.Laid.{length-elements}
 use Rattle.page_rules.proofs.Decoding.{asked-23, asked-10, asked-passed, asked-by, taken, decodes, decode-numbers, decoded-accepted, decoded-refused}
 use Rattle.column_rules.specs.declared.ColumnPage.{ColumnPage}
-use Rattle.column_rules.specs.Column.{acceptAll, refuseAt, inside, pageBytes, pageOutcome, pageDecoded, Decoding, inTurn}
+use Rattle.column_rules.specs.Column.{refuseAt, inside, pageBytes, pageOutcome, pageDecoded, Decoding, inTurn}
 use Rattle.column_rules.specs.Statements.{inColumn, pageElements, elementsOf}
 
 -- a refusal by one of some numbers is told by its number, and is no acceptance
@@ -148,7 +147,7 @@ module _ (t : ℕ) (file : List ℕ) (p : ColumnPage) (old : List ℕ) (start : 
 
     pub turn-refused : isAccepted answer ≡ false → inTurn t file (p ∷ ps) i start old ≡ record { outcome = refuseAt (answer .number) i; words = old }
     unfolding inTurn
-    turn-refused e = rw (e, page-refused e)
+    turn-refused e = rw e (ap (λ (words : List ℕ). record { outcome = refuseAt (answer .number) i; words = words }) (page-refused e))
 
 -- words written from a place on, and others from where they end on, are both written from that place on
 pub one-after-other : (old xs ys : List ℕ) (start n : ℕ) → length xs ≡ n → start + n ≤ length old
