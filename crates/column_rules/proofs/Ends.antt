@@ -11,12 +11,12 @@ use lib.ListN.{length, take, drop, length-append, take-append-drop}
 use Rattle.numbers.specs.Rows.{flat, over}
 use Rattle.numbers.proofs.Choice.{clash}
 use Rattle.outcome.specs.Outcome.{Outcome, isAccepted}
-use Rattle.page_rules.specs.Page.{accept, RefusedBy}
+use Rattle.page_rules.specs.Page.{RefusedBy}
 use Rattle.page_rules.proofs.Laid.{length-left}
 use Rattle.column_rules.specs.declared.ColumnPage.{ColumnPage}
 use Rattle.column_rules.specs.Column.{acceptAll, refuseAt, pageOutcome, pageDecoded, Decoding, indexOf, inTurn}
 use Rattle.column_rules.specs.Statements.{inColumn, RefusedAt, pageElements}
-use Rattle.column_rules.proofs.TurnLaws.{page-numbers, page-accepted, turn-accepted, turn-refused, one-after-other}
+use Rattle.column_rules.proofs.TurnLaws.{refused-is, page-accepted, turn-accepted, turn-refused, one-after-other}
 
 -- a page that is refused by one of some numbers ends the pages with it
 refused-at : (ks : List ℕ) (o : Outcome) (i : ℕ) (words : List ℕ) → RefusedBy ks o → RefusedAt ks i (record { outcome = refuseAt (o .number) i; words = words })
@@ -80,13 +80,12 @@ module _ (t : ℕ) (file : List ℕ) where
         most = omega arith;
         index = sym (add-zero i);
         before = rw (add-zero i);
-        last = inr (record { less = omega arith; number = rw (add-zero i) (by (page-numbers t file p old start)); same = λ qs. turn-refused t file p old start qs i e });
+        last = inr (record {
+          less = omega arith;
+          number = rw (add-zero i) (refused-at inColumn (pageOutcome t file p (length old) start) i old (refused-is t file p old start e));
+          same = λ qs. turn-refused t file p old start qs i e;
+        });
       }
-    where
-      by : (pageOutcome t file p (length old) start ≡ accept (p .elements)) ⊎ RefusedBy inColumn (pageOutcome t file p (length old) start)
-          → RefusedAt inColumn i (record { outcome = refuseAt (pageOutcome t file p (length old) start .number) i; words = old })
-      by (inl a) = clash (ap isAccepted a) e
-      by (inr r) = refused-at inColumn (pageOutcome t file p (length old) start) i old r
 
   pub ends : (ps : List ColumnPage) (i start : ℕ) (old : List ℕ) → Ends ps i start old (inTurn t file ps i start old)
   unfolding inTurn

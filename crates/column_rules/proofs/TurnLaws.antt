@@ -21,14 +21,15 @@ use Rattle.column_rules.specs.declared.ColumnPage.{ColumnPage}
 use Rattle.column_rules.specs.Column.{refuseAt, inside, pageBytes, pageOutcome, pageDecoded, Decoding, inTurn}
 use Rattle.column_rules.specs.Statements.{inColumn, pageElements, elementsOf}
 
--- a refusal by one of some numbers is told by its number, and is no acceptance
+-- a refusal by one of some numbers is the refusal by its own number
 pub by-number : (ks : List ℕ) (o : Outcome) → RefusedBy ks o → o ≡ refuse (o .number)
 by-number (k ∷ ks) o (inl e) = e ∙ ap (λ (x : Outcome). refuse (x .number)) (sym e)
 by-number (k ∷ ks) o (inr r) = by-number ks o r
 
--- A page that is accepted: its bytes are in the file part, the single call accepts them, and its elements stand in the words from `start` on,
--- as many as its row has.
+-- A page that is accepted: it answers the elements of its row, its bytes are in the file part, the single call accepts them, and that many
+-- elements stand in the words from `start` on.
 pub record Taken (t : ℕ) (file : List ℕ) (p : ColumnPage) (old : List ℕ) (start : ℕ) : Type 0 where
+  pub answers : pageOutcome t file p (length old) start ≡ accept (p .elements)
   pub isInside : inside file p ≡ true
   pub isAsSingle : isAccepted (decodeOutcome t (p .elements) (p .checksum) (pageBytes file p) (length old) start) ≡ true
   pub room : start + p .elements ≤ length old
@@ -93,7 +94,20 @@ module _ (t : ℕ) (file : List ℕ) (p : ColumnPage) (old : List ℕ) (start : 
           rw (is-single h .0) (within single (decode-numbers t n (p .checksum) (pageBytes file p) (length old) start))
       by false h = rw (is-outside h .0) (asked-by t n (18 ∷ 21 ∷ 22 ∷ 24 ∷ 20 ∷ []) (accept n) (refuse 18) (inr (inl refl)))
 
-  -- the words that an accepted page leaves
+  accepted-is : isAccepted answer ≡ true → answer ≡ accept n
+  accepted-is e = by page-numbers
+    where
+      by : (answer ≡ accept n) ⊎ RefusedBy inColumn answer → answer ≡ accept n
+      by (inl a) = a
+      by (inr r) = clash e (ap isAccepted (by-number inColumn answer r))
+
+  pub refused-is : isAccepted answer ≡ false → RefusedBy inColumn answer
+  refused-is e = by page-numbers
+    where
+      by : (answer ≡ accept n) ⊎ RefusedBy inColumn answer → RefusedBy inColumn answer
+      by (inl a) = clash (ap isAccepted a) e
+      by (inr r) = r
+
   pub page-accepted : isAccepted answer ≡ true → Taken t file p old start
   page-accepted e = by (inside file p) refl
     where
@@ -107,6 +121,7 @@ module _ (t : ℕ) (file : List ℕ) (p : ColumnPage) (old : List ℕ) (start : 
           let d = decodes t n (p .checksum) (pageBytes file p) (length old) start a in
           let long = d .sized .long in
           record {
+            answers = accepted-is e;
             isInside = h;
             isAsSingle = a;
             room = d .room;
@@ -125,18 +140,10 @@ module _ (t : ℕ) (file : List ℕ) (p : ColumnPage) (old : List ℕ) (start : 
 
   -- the one number of its answer
   pub accepted-code : isAccepted answer ≡ true → codeOf answer ≡ 0
-  accepted-code e = by page-numbers
-    where
-      by : (answer ≡ accept n) ⊎ RefusedBy inColumn answer → codeOf answer ≡ 0
-      by (inl a) = ap codeOf a
-      by (inr r) = clash e (ap isAccepted (by-number inColumn answer r))
+  accepted-code e = ap codeOf (accepted-is e)
 
   pub refused-code : (i : ℕ) → isAccepted answer ≡ false → codeOf answer ≡ codeOf (refuseAt (answer .number) i)
-  refused-code i e = by page-numbers
-    where
-      by : (answer ≡ accept n) ⊎ RefusedBy inColumn answer → codeOf answer ≡ codeOf (refuseAt (answer .number) i)
-      by (inl a) = clash (ap isAccepted a) e
-      by (inr r) = ap codeOf (by-number inColumn answer r)
+  refused-code i e = ap codeOf (by-number inColumn answer (refused-is e))
 
   -- the pages from this one on
 
