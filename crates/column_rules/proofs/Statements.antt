@@ -68,11 +68,11 @@ module _ (t : ℕ) (file table old : List ℕ) (few : rowsIn columnPageWidth tab
   pub accepted-pages : indexOf d ≡ whole-ends .done
   accepted-pages = whole-ends .index ∙ zero-add (whole-ends .done)
 
-  rows-are : length (columnPages table) ≡ rowsIn columnPageWidth table
+  pub rows-are : length (columnPages table) ≡ rowsIn columnPageWidth table
   rows-are = rows-length columnPage table (rowsIn columnPageWidth table)
 
   -- the pages before that index are accepted, and leave the words that are left
-  before-it : inTurn t file (take (indexOf d) (columnPages table)) 0 0 old ≡ record { outcome = acceptAll (indexOf d); words = d .words }
+  pub before-it : inTurn t file (take (indexOf d) (columnPages table)) 0 0 old ≡ record { outcome = acceptAll (indexOf d); words = d .words }
   before-it =
       ap (λ (n : ℕ). inTurn t file (take n (columnPages table)) 0 0 old) accepted-pages ∙ whole-ends .before
       ∙ ap (λ (n : ℕ). record { outcome = acceptAll n; words = d .words }) (sym (whole-ends .index))
