@@ -7,7 +7,8 @@ ghost use lib.Dec.{eqb};
 ghost use Rattle.numbers.specs.Numbers.{little};
 ghost use Rattle.numbers.specs.Rows.{over};
 ghost use Rattle.coding.specs.Layout.{WholeBytes, unplain, unplanes};
-ghost use Rattle.page_rules.specs.Page.{readable, sizeOf, laid, elements};
+ghost use Rattle.column_type.specs.Types.{widthOf, split};
+ghost use Rattle.page_rules.specs.Page.{readable, sizeOf, elements};
 use crate::bit::unpack;
 use crate::difference::sum_up;
 use crate::signed::unzigzag_all;
@@ -77,20 +78,22 @@ fn split_out(page: &[u8], k: usize, n: usize, out: &mut [u64])
     }
 }
 
-// The first n words become the numbers of a page that is not a Bit page, split or plain.
-fn lay(column_type: u64, n: usize, page: &[u8], out: &mut [u64])
-    requires { ⌜ (readable «column_type» ≡ true) × (eqb «column_type» 6 ≡ false) × (sizeOf «column_type» n ≤ length (now page)) × (n ≤ length (now out)) ⌝ }
-    ensures { λ _. ⌜ now (out .exit) ≡ over (laid «column_type» n (now (page .entry))) (now (out .entry)) ⌝ }
+// The first n words become the elements of a split page whose elements have so many bits: its numbers, and then what delta or zigzag makes of them.
+fn fill_split(column_type: u64, width: u64, n: usize, page: &[u8], out: &mut [u64])
+    requires { ⌜ (readable «column_type» ≡ true) × (eqb «column_type» 6 ≡ false) × (split «column_type» ≡ true) × (width ≡ widthOf «column_type») × (sizeOf «column_type» n ≤ length (now page)) × (n ≤ length (now out)) ⌝ }
+    ensures { λ _. ⌜ now (out .exit) ≡ over (elements «column_type» n (now (page .entry))) (now (out .entry)) ⌝ }
 {
-    let k = (column_type::width_of(column_type) / 8) as usize;
-    if column_type::is_split(column_type) {
-        split_out(page, k, n, out);
-    } else {
-        plain_out(page, k, n, out);
+    split_out(page, (width / 8) as usize, n, out);
+    if column_type::is_delta(column_type) {
+        sum_up(width, n, out);
+        return;
+    }
+    if column_type::is_zigzag(column_type) {
+        unzigzag_all(width, n, out);
     }
 }
 
-// The first n words become the elements of a page.
+// The first n words become the elements of a page. What is plain has neither delta nor zigzag.
 pub fn fill(column_type: u64, n: usize, page: &[u8], out: &mut [u64])
     requires { ⌜ (readable «column_type» ≡ true) × (sizeOf «column_type» n ≤ length (now page)) × (n ≤ length (now out)) ⌝ }
     ensures { λ _. ⌜ now (out .exit) ≡ over (elements «column_type» n (now (page .entry))) (now (out .entry)) ⌝ }
@@ -99,13 +102,10 @@ pub fn fill(column_type: u64, n: usize, page: &[u8], out: &mut [u64])
         unpack(page, n, out);
         return;
     }
-    lay(column_type, n, page, out);
     let width = column_type::width_of(column_type);
-    if column_type::is_delta(column_type) {
-        sum_up(width, n, out);
-        return;
-    }
-    if column_type::is_zigzag(column_type) {
-        unzigzag_all(width, n, out);
+    if column_type::is_split(column_type) {
+        fill_split(column_type, width, n, page, out);
+    } else {
+        plain_out(page, (width / 8) as usize, n, out);
     }
 }
