@@ -1,0 +1,145 @@
+-- One page of a column as the code has it, and the pages in turn.
+-- Assumes nothing.
+use mathlib.Core.Path.{_≡_, refl, sym, ap, _∙_}
+use mathlib.Core.Bool.{Bool, true, false, false≢true}
+use mathlib.Core.List.{List, [], _∷_}
+use Prim.Native.Nat.{ℕ, suc, _+_, _-_, _<_, _≤_}
+use native.Mathlib.Numerals.{add-one}
+use native.Mathlib.Omega.{arith}
+use lib.Dec.{leb, eqb}
+use lib.ListN.{length, getD, take, drop, drop-of-length-le}
+use lib.Seq.{drop-cons}
+use borrow.Author.Tests.{le-leb, lt-leb, leb-true, eqb-true}
+use Rattle.numbers.specs.Numbers.{trailer}
+use Rattle.outcome.specs.Outcome.{Outcome, isAccepted}
+use Rattle.rows.specs.Tables.{rowsIn, firstRows}
+use Rattle.rows.proofs.FirstRows.{rows-length, row-at}
+use Rattle.locator.specs.Locator.{inFile}
+use Rattle.page_rules.specs.Page.{accept, refuse, unless, readable, mostElements, asked, decodeOutcome, decoded}
+use Rattle.page_rules.proofs.Decoding.{decodes, accepted}
+use Rattle.column_rules.specs.declared.ColumnPage.{ColumnPage}
+use Rattle.column_rules.specs.Column.{Decoding, acceptAll, refuseAt, columnPageWidth, columnPage, columnPages, inside, pageBytes, pageOutcome, pageDecoded, inTurn, wholeColumn}
+
+module _ (t : ℕ) (file : List ℕ) (p : ColumnPage) (old : List ℕ) (start : ℕ) where
+  abbrev single : Outcome
+  single = decodeOutcome t (p .elements) (p .checksum) (pageBytes file p) (length old) start
+
+  abbrev answer : Outcome
+  answer = pageOutcome t file p (length old) start
+
+  abbrev left : List ℕ
+  left = pageDecoded t file p old start
+
+  -- in the file part a page is as the single call has it
+  pub is-single : inside file p ≡ true → (single ≡ answer) × (decoded t (p .elements) (p .checksum) (pageBytes file p) old start ≡ left)
+  unfolding pageOutcome pageDecoded decodeOutcome
+  is-single h = (rw h (by (readable t) (leb (p .elements) mostElements) _), rw h)
+    where
+      by : (a b : Bool) (x : Outcome) → unless a 23 (unless b 10 x) ≡ unless a 23 (unless b 10 (unless a 23 (unless b 10 x)))
+      by true true x = refl
+      by true false x = refl
+      by false b x = refl
+
+  -- outside it there is no single call
+  pub is-outside : inside file p ≡ false → (asked t (p .elements) (refuse 18) ≡ answer) × (old ≡ left)
+  unfolding pageOutcome pageDecoded
+  is-outside h = (rw h, rw h)
+
+  -- a page that is accepted has room, and says how many elements there are
+  pub page-accepted : isAccepted answer ≡ true → (accept (p .elements) ≡ answer) × (start + p .elements ≤ length old)
+  page-accepted e = by (inside file p) refl
+    where
+      outside-refused : (a b : Bool) → isAccepted (unless a 23 (unless b 10 (refuse 18))) ≡ true → ⊥
+      outside-refused true true h = false≢true h
+      outside-refused true false h = false≢true h
+      outside-refused false b h = false≢true h
+
+      by : (b : Bool) → inside file p ≡ b → (accept (p .elements) ≡ answer) × (start + p .elements ≤ length old)
+      by true h =
+          let d = decodes t (p .elements) (p .checksum) (pageBytes file p) (length old) start (ap isAccepted (is-single h .0) ∙ e) in
+          (accepted t (p .elements) (p .checksum) (pageBytes file p) (length old) start (d .sized) (d .right) (d .clear) (le-leb _ _ (d .room)) ∙ is-single h .0, d .room)
+      by false h = absurd (outside-refused (readable t) (leb (p .elements) mostElements) (ap isAccepted (is-outside h .0) ∙ e))
+
+  -- the pages from this one on
+  module _ (ps : List ColumnPage) (i : ℕ) where
+    turn-accepted : isAccepted answer ≡ true → inTurn t file (p ∷ ps) i start old ≡ inTurn t file ps (suc i) (start + p .elements) left
+    unfolding inTurn
+    turn-accepted e = rw e
+
+    turn-refused : isAccepted answer ≡ false → inTurn t file (p ∷ ps) i start old ≡ record { outcome = refuseAt (answer .number) i; words = left }
+    unfolding inTurn
+    turn-refused e = rw e
+
+-- the code's verdict on a page's range, and the part that it lends
+pub verdict-inside : (file : List ℕ) (p : ColumnPage) (behind r : ℕ) → behind ≡ trailer (p .checksum) → r ≡ inFile (length file) (p .size) behind (p .offset)
+    → eqb r 0 ≡ inside file p
+verdict-inside file p behind r e v = ap (λ (x : ℕ). eqb x 0) (v ∙ ap (λ (b : ℕ). inFile (length file) (p .size) b (p .offset)) e)
+
+pub inside-within : (file : List ℕ) (p : ColumnPage) (behind : ℕ) → behind ≡ trailer (p .checksum) → inside file p ≡ true → p .offset + p .size + behind ≤ length file
+inside-within file p behind e h = rw e (by (leb (p .offset + p .size + trailer (p .checksum)) (length file)) refl h)
+  where
+    by : (b : Bool) → leb (p .offset + p .size + trailer (p .checksum)) (length file) ≡ b → eqb (Rattle.wire.specs.Reading.unless b 18 0) 0 ≡ true → p .offset + p .size + trailer (p .checksum) ≤ length file
+    by true l h = leb-true _ _ l
+    by false l h = absurd (false≢true h)
+
+pub part-is : (file : List ℕ) (p : ColumnPage) (behind : ℕ) → behind ≡ trailer (p .checksum) → take (p .offset + p .size + behind - p .offset) (drop (p .offset) file) ≡ pageBytes file p
+part-is file p behind e =
+    let n : p .offset + p .size + behind - p .offset ≡ p .size + trailer (p .checksum) = omega arith in
+    ap (λ (k : ℕ). take k (drop (p .offset) file)) n
+
+-- i pages of a table are decoded, to the words before `start`
+pub record Reached (t : ℕ) (file table old : List ℕ) (i start : ℕ) (now : List ℕ) : Type 0 where
+  pub same : inTurn t file (columnPages table) 0 0 old ≡ inTurn t file (drop i (columnPages table)) i start now
+  pub room : start ≤ length now
+  pub long : length now ≡ length old
+  pub most : i ≤ rowsIn columnPageWidth table
+
+module _ (t : ℕ) (file table old : List ℕ) where
+  pub reached-none : Reached t file table old 0 0 old
+  reached-none = record { same = refl; room = omega arith; long = refl; most = omega arith }
+
+  pub too-many : 256 < rowsIn columnPageWidth table → record { outcome = refuseAt 10 256; words = old } ≡ wholeColumn t file table old
+  unfolding wholeColumn
+  too-many h = rw (lt-leb (rowsIn columnPageWidth table) 256 h)
+
+  few-enough : rowsIn columnPageWidth table ≤ 256 → inTurn t file (columnPages table) 0 0 old ≡ wholeColumn t file table old
+  unfolding wholeColumn
+  few-enough h = rw (le-leb (rowsIn columnPageWidth table) 256 h)
+
+  module _ {i start : ℕ} {now : List ℕ} (r : Reached t file table old i start now) where
+    -- what the rows from the next one on do
+    next : {p : ColumnPage} → i < rowsIn columnPageWidth table → p ≡ columnPage table i
+        → inTurn t file (columnPages table) 0 0 old ≡ inTurn t file (p ∷ drop (suc i) (columnPages table)) i start now
+    next {p} h e =
+        let many = rows-length columnPage table (rowsIn columnPageWidth table) in
+        r .same
+        ∙ ap (λ (ps : List ColumnPage). inTurn t file ps i start now) (drop-cons (columnPages table) i p (omega arith))
+        ∙ ap (λ (q : ColumnPage). inTurn t file (q ∷ drop (suc i) (columnPages table)) i start now) (row-at columnPage table (rowsIn columnPageWidth table) i p h ∙ sym e)
+
+    pub reached-more : {n : ℕ} {new : List ℕ} {p : ColumnPage} → i < rowsIn columnPageWidth table → p ≡ columnPage table i → accept n ≡ pageOutcome t file p (length now) start
+        → new ≡ pageDecoded t file p now start → length new ≡ length now → Reached t file table old (i + 1) (start + n) new
+    reached-more {n} {new} {p} h e answers leaves l =
+        let a = page-accepted t file p now start (ap isAccepted (sym answers)) in
+        let count : n ≡ p .elements = ap (λ (o : Outcome). getD (o .counts) 0 0) (answers ∙ sym (a .0)) in
+        record {
+          same = next h e ∙ turn-accepted t file p now start _ i (ap isAccepted (sym answers)) ∙ rw (count, leaves, add-one i);
+          room = omega (arith, a .1);
+          long = l ∙ r .long;
+          most = omega arith;
+        }
+
+    pub reached-refused : {k : ℕ} {new : List ℕ} {p : ColumnPage} → i < rowsIn columnPageWidth table → p ≡ columnPage table i → refuse k ≡ pageOutcome t file p (length now) start
+        → new ≡ pageDecoded t file p now start → rowsIn columnPageWidth table ≤ 256
+        → record { outcome = refuseAt k i; words = new } ≡ wholeColumn t file table old
+    reached-refused {p = p} h e answers leaves few =
+        sym (next h e ∙ turn-refused t file p now start _ i (ap isAccepted (sym answers)) ∙ rw (← answers, ← leaves)) ∙ few-enough few
+
+    pub reached-all : rowsIn columnPageWidth table ≤ i → rowsIn columnPageWidth table ≤ 256 → record { outcome = acceptAll (rowsIn columnPageWidth table); words = now } ≡ wholeColumn t file table old
+    unfolding inTurn
+    reached-all h few =
+        let many = rows-length columnPage table (rowsIn columnPageWidth table) in
+        let m = r .most in
+        let all : rowsIn columnPageWidth table ≡ i = omega arith in
+        ap (λ (n : ℕ). record { outcome = acceptAll n; words = now }) all
+        ∙ sym (r .same ∙ ap (λ (ps : List ColumnPage). inTurn t file ps i start now) (drop-of-length-le (columnPages table) {i = i} (omega arith)))
+        ∙ few-enough few
