@@ -103,13 +103,16 @@ fn first_of(tests: &[(u32, bool)]) -> u32 {
     tests.iter().find(|(_, holds)| *holds).map_or(0, |(number, _)| *number)
 }
 
+/// The number and the index of a refusal, if there is one.
+type Refused = Option<(u32, u64)>;
+
 /// How a column is decoded: each part can be put out of order by itself.
 struct Way {
     /// The rows of a table.
     rows: fn(&[u64]) -> Vec<Row>,
     /// What is refused before the first page, and the result then; given the
     /// type, the rows and how many words are lent.
-    first: fn(u32, &[Row], usize) -> Option<(u32, u64)>,
+    first: fn(u32, &[Row], usize) -> Refused,
     /// The type as it is read.
     column_type: fn(u32) -> u32,
     /// What is refused of a page before its bytes are looked at.

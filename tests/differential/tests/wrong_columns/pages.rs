@@ -1,7 +1,7 @@
 //! Columns of other rows or other pages: what is read of the table, what is
 //! refused and in which order, which bytes a page has, and where its words go.
 
-use super::{cut, first_of, rows, Row, Way, BIT, MOST, RIGHT, SWITCH};
+use super::{cut, first_of, rows, Refused, Row, Way, BIT, MOST, RIGHT, SWITCH};
 use differential::compare::ColumnCall;
 use differential::reference::pages::{stored_bits, ELEMENTS};
 
@@ -30,7 +30,7 @@ fn with_left(table: &[u64], least: usize) -> Vec<Row> {
     rows
 }
 
-fn too_many(rows: &[Row]) -> Option<(u32, u64)> {
+fn too_many(rows: &[Row]) -> Refused {
     (RIGHT.first)(0, rows, 0)
 }
 
@@ -39,12 +39,12 @@ fn is_unknown(column_type: u32) -> bool {
 }
 
 /// More than so many rows are refused.
-fn most(rows: &[Row], most: usize) -> Option<(u32, u64)> {
+fn most(rows: &[Row], most: usize) -> Refused {
     (rows.len() > most).then_some((10, MOST as u64))
 }
 
 /// A refusal of the first row for which the test holds, before any page.
-fn any_row(rows: &[Row], number: u32, test: impl Fn(&Row) -> bool) -> Option<(u32, u64)> {
+fn any_row(rows: &[Row], number: u32, test: impl Fn(&Row) -> bool) -> Refused {
     let index = rows.iter().position(test)?;
     Some((number, index as u64))
 }

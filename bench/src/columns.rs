@@ -1,0 +1,297 @@
+//! Columns of many small pages: the library's one call beside single calls for
+//! one page after the other, and beside Rust loops with the same checks.
+
+use crate::{contest, line_beside, per_element, ELEMENTS};
+use differential::generate::random::Random;
+use differential::reference::columns::{PAGES, ROW_WORDS};
+use differential::reference::crc::crc32;
+use differential::reference::pages::{self, stored_bits};
+use differential::reference::{refusal, PAGE};
+use differential::{calls, reference};
+use std::hint::black_box;
+
+const SWITCH: u32 = 3;
+const BIT: u32 = 6;
+
+/// So many elements each page has; together they are as many as those of the
+/// large pages of this benchmark.
+const PAGE_ELEMENTS: usize = ELEMENTS / PAGES;
+
+/// An answer as the exported call gives it, and the result.
+fn answer(decoded: Result<usize, (u32, usize)>) -> (u32, u64) {
+    match decoded {
+        Ok(count) => (0, count as u64),
+        Err((number, index)) => (refusal(PAGE, number), index as u64),
+    }
+}
+
+/// Calls `page` for each row with the rest of the words, which it shortens by
+/// its own.
+fn each_page<'a>(
+    table: &[u64],
+    mut words: &'a mut [u64],
+    page: impl Fn([u64; ROW_WORDS], &'a mut [u64]) -> Result<&'a mut [u64], u32>,
+) -> Result<usize, (u32, usize)> {
+    let rows = table.chunks_exact(ROW_WORDS);
+    let count = rows.len();
+    if count > PAGES {
+        return Err((10, PAGES));
+    }
+    for (index, row) in rows.enumerate() {
+        let row = row.try_into().expect("a row");
+        words = page(row, words).map_err(|number| (number, index))?;
+    }
+    Ok(count)
+}
+
+/// The bytes of a page with its check bytes, if they are inside the file.
+fn range(file: &[u8], [offset, size, _, checksum]: [u64; ROW_WORDS]) -> Result<&[u8], u32> {
+    let check_bytes = if checksum != 0 { 4 } else { 0 };
+    let end = offset.checked_add(size).and_then(|end| end.checked_add(check_bytes));
+    let end = end.filter(|&end| end <= file.len() as u64).ok_or(18u32)?;
+    Ok(&file[offset as usize..end as usize])
+}
+
+/// A column as one would decode it in Rust: the checks of a page, then whole
+/// elements or planes into its words.
+pub fn decode(column_type: u32, table: &[u64], file: &[u8], words: &mut [u64]) -> Result<usize, (u32, usize)> {
+    each_page(table, words, |row, words| {
+        let [_, size, elements, checksum] = row;
+        let bits = stored_bits(column_type)
+            .filter(|_| column_type != SWITCH)
+            .ok_or(23u32)?;
+        if elements > pages::ELEMENTS {
+            return Err(10);
+        }
+        let (content, stored) = range(file, row)?.split_at(size as usize);
+        if size != (elements * u64::from(bits)).div_ceil(8) {
+            return Err(21);
+        }
+        if checksum != 0 && crc32(content).to_le_bytes() != stored {
+            return Err(22);
+        }
+        let unused = elements % 8;
+        if column_type == BIT && unused != 0 && content[size as usize - 1] >> unused != 0 {
+            return Err(24);
+        }
+        let (out, rest) = words.split_at_mut_checked(elements as usize).ok_or(20u32)?;
+        fill(column_type, bits, content, out);
+        Ok(rest)
+    })
+}
+
+fn fill(column_type: u32, bits: u16, content: &[u8], out: &mut [u64]) {
+    let split = matches!(column_type, 0x0E..=0x15 | 0x1A..=0x1C);
+    match (bits, split) {
+        (1, _) => unpack(content, out),
+        (8, _) => out
+            .iter_mut()
+            .zip(content)
+            .for_each(|(word, &byte)| *word = byte.into()),
+        (16, false) => whole(content, out, |bytes| u16::from_le_bytes(bytes).into()),
+        (32, false) => whole(content, out, |bytes| u32::from_le_bytes(bytes).into()),
+        (_, false) => whole(content, out, u64::from_le_bytes),
+        (_, true) => planes(content, out),
+    }
+    let mask = u64::MAX >> (64 - bits);
+    match column_type {
+        0x0E | 0x0F => {
+            let mut sum = 0u64;
+            for word in out {
+                sum = sum.wrapping_add(*word) & mask;
+                *word = sum;
+            }
+        }
+        0x1A..=0x1C => out
+            .iter_mut()
+            .for_each(|word| *word = (*word >> 1 ^ (*word & 1).wrapping_neg()) & mask),
+        _ => {}
+    }
+}
+
+fn whole<const K: usize>(content: &[u8], out: &mut [u64], number: impl Fn([u8; K]) -> u64) {
+    for (word, bytes) in out.iter_mut().zip(content.chunks_exact(K)) {
+        *word = number(bytes.try_into().expect("so many bytes"));
+    }
+}
+
+fn planes(content: &[u8], out: &mut [u64]) {
+    if out.is_empty() {
+        return;
+    }
+    for (plane, bytes) in content.chunks_exact(out.len()).enumerate() {
+        let words = out.iter_mut().zip(bytes);
+        if plane == 0 {
+            words.for_each(|(word, &byte)| *word = byte.into());
+        } else {
+            words.for_each(|(word, &byte)| *word |= u64::from(byte) << (8 * plane));
+        }
+    }
+}
+
+fn unpack(content: &[u8], out: &mut [u64]) {
+    let mut eights = out.chunks_exact_mut(8);
+    for (words, &byte) in (&mut eights).zip(content) {
+        for (i, word) in words.iter_mut().enumerate() {
+            *word = u64::from(byte >> i & 1);
+        }
+    }
+    let last = content.last().copied().unwrap_or(0);
+    for (i, word) in eights.into_remainder().iter_mut().enumerate() {
+        *word = u64::from(last >> i & 1);
+    }
+}
+
+/// The same with the independent decoder of pages.
+pub fn by_pages(column_type: u32, table: &[u64], file: &[u8], words: &mut [u64]) -> Result<usize, (u32, usize)> {
+    each_page(table, words, |row, words| {
+        let [_, _, elements, checksum] = row;
+        pages::known(column_type, elements)?;
+        pages::decode(column_type, elements, checksum != 0, range(file, row)?, words, 0)?;
+        Ok(&mut words[elements as usize..])
+    })
+}
+
+/// The library's single call for one page after the other, the range of each
+/// tested by its caller.
+fn single_calls(column_type: u32, table: &[u64], file: &[u8], words: &mut [u64]) -> Result<usize, (u32, usize)> {
+    let mut start = 0;
+    for (index, row) in table.chunks_exact(ROW_WORDS).enumerate() {
+        let row: [u64; ROW_WORDS] = row.try_into().expect("a row");
+        let [_, _, elements, checksum] = row;
+        let page = range(file, row).map_err(|number| (number, index))?;
+        let refused = calls::decode_page(column_type, elements, (checksum != 0).into(), page, words, start);
+        if refused != 0 {
+            return Err((refused % 256, index));
+        }
+        start += elements;
+    }
+    Ok(table.len() / ROW_WORDS)
+}
+
+/// The table of a column and the file with its pages, one after the other.
+fn column(random: &mut Random, column_type: u32, checksum: bool) -> (Vec<u64>, Vec<u8>) {
+    let bits = usize::from(stored_bits(column_type).expect("a known type"));
+    let size = PAGE_ELEMENTS * bits / 8;
+    let (mut table, mut file) = (Vec::new(), Vec::new());
+    for _ in 0..PAGES {
+        table.extend([file.len(), size, PAGE_ELEMENTS, checksum.into()].map(|number| number as u64));
+        let page = random.bytes(size);
+        file.extend_from_slice(&page);
+        if checksum {
+            file.extend(crc32(&page).to_le_bytes());
+        }
+    }
+    (table, file)
+}
+
+/// Whether it is plain, split, with delta or zigzag, and how wide; and whether
+/// its pages have checksums.
+const COLUMNS: [(u32, bool); 10] = [
+    (0x07, false),
+    (0x08, false),
+    (0x11, false),
+    (0x0E, false),
+    (0x1A, false),
+    (0x12, false),
+    (0x0D, false),
+    (0x06, false),
+    (0x07, true),
+    (0x11, true),
+];
+
+/// Two lines for each column: beside the faster of the Rust loops, and beside
+/// single calls.
+pub fn lines(random: &mut Random) {
+    for (column_type, checksum) in COLUMNS {
+        let (table, file) = column(random, column_type, checksum);
+        let (table, file) = (&table[..], &file[..]);
+        let mut lent = (vec![0; ELEMENTS], [0; 1]);
+        let accepted = |result: &mut [u64; 1], decoded| {
+            let (answer, count) = answer(decoded);
+            assert_eq!(answer, 0);
+            *result = [count];
+        };
+        let times = contest(
+            &mut lent,
+            &|(words, result)| {
+                assert_eq!(
+                    calls::decode_column(column_type, black_box(table), file, words, result),
+                    0
+                )
+            },
+            &[
+                (SINGLE, &|(words, result)| {
+                    accepted(result, single_calls(column_type, black_box(table), file, words))
+                }),
+                ("Rust", &|(words, result)| {
+                    accepted(result, decode(column_type, black_box(table), file, words))
+                }),
+                ("Rust pages", &|(words, result)| {
+                    accepted(result, by_pages(column_type, black_box(table), file, words))
+                }),
+            ],
+            8 * ELEMENTS,
+        );
+        let mut due = vec![0; ELEMENTS];
+        let (answer, result) = reference::decode_column(column_type, table, file, &mut due);
+        assert!(answer == 0 && lent == (due, result));
+        let with = if checksum { ", checksums" } else { "" };
+        let speed = per_element(times.ours);
+        let (single, rust) = times.parted(SINGLE);
+        line_beside(&format!("column {column_type:02X}{with}"), &speed, &times, rust);
+        line_beside("  beside single calls", &speed, &times, single);
+    }
+}
+
+const SINGLE: &str = "single";
+
+/// They keep the rules: the reference leaves the same on the cases of the
+/// differential test.
+#[cfg(test)]
+mod tests {
+    use super::*;
+    use differential::compare::{ColumnCall, Comparer};
+    use differential::generate::Kind;
+
+    fn compare(call: ColumnCall) {
+        let mut comparer = Comparer::new();
+        comparer.decode_column = call;
+        for case in 0..20_000 {
+            comparer
+                .run(1, Kind::Column, case)
+                .unwrap_or_else(|difference| panic!("{difference}"));
+        }
+    }
+
+    /// The call by what is decoded, where there is a result.
+    fn told(result: &mut [u64], decoded: impl FnOnce() -> Result<usize, (u32, usize)>) -> u32 {
+        let Some(first) = result.first_mut() else {
+            return u32::MAX;
+        };
+        let (answer, index) = answer(decoded());
+        *first = index;
+        answer
+    }
+
+    #[test]
+    fn they_answer_as_the_reference() {
+        compare(|column_type, pages, file, words, result| told(result, || decode(column_type, pages, file, words)));
+        compare(|column_type, pages, file, words, result| told(result, || by_pages(column_type, pages, file, words)));
+    }
+
+    /// Single calls alone do not know how many pages there may be, and 18 comes
+    /// before 23 and 10 where the caller tests the range; the pages measured are
+    /// right ones.
+    #[test]
+    fn single_calls_decode_right_columns() {
+        let mut random = Random::new(2);
+        for (column_type, checksum) in COLUMNS {
+            let (table, file) = column(&mut random, column_type, checksum);
+            let (mut words, mut due) = (vec![0; ELEMENTS], vec![0; ELEMENTS]);
+            assert_eq!(single_calls(column_type, &table, &file, &mut words), Ok(PAGES));
+            assert_eq!(decode(column_type, &table, &file, &mut due), Ok(PAGES));
+            assert!(words == due);
+        }
+    }
+}
