@@ -3,7 +3,8 @@
 
 use crate::{contest, line_beside, per_element, ELEMENTS};
 use differential::generate::random::Random;
-use differential::reference::columns::{PAGES, ROW_WORDS};
+pub use differential::reference::columns::PAGES;
+use differential::reference::columns::ROW_WORDS;
 use differential::reference::crc::crc32;
 use differential::reference::pages::{self, stored_bits};
 use differential::reference::{refusal, PAGE};
@@ -15,7 +16,7 @@ const BIT: u32 = 6;
 
 /// So many elements each page has; together they are as many as those of the
 /// large pages of this benchmark.
-const PAGE_ELEMENTS: usize = ELEMENTS / PAGES;
+pub const PAGE_ELEMENTS: usize = ELEMENTS / PAGES;
 
 /// An answer as the exported call gives it, and the result.
 fn answer(decoded: Result<usize, (u32, usize)>) -> (u32, u64) {
@@ -53,8 +54,14 @@ fn range(file: &[u8], [offset, size, _, checksum]: [u64; ROW_WORDS]) -> Result<&
 }
 
 /// A column as one would decode it in Rust: the checks of a page, then whole
-/// elements or planes into its words.
-pub fn decode(column_type: u32, table: &[u64], file: &[u8], words: &mut [u64]) -> Result<usize, (u32, usize)> {
+/// elements or planes into its words, the planes put together in the given way.
+fn decode(
+    column_type: u32,
+    table: &[u64],
+    file: &[u8],
+    words: &mut [u64],
+    planes: impl Fn(&[u8], &mut [u64]),
+) -> Result<usize, (u32, usize)> {
     each_page(table, words, |row, words| {
         let [_, size, elements, checksum] = row;
         let bits = stored_bits(column_type)
@@ -75,12 +82,12 @@ pub fn decode(column_type: u32, table: &[u64], file: &[u8], words: &mut [u64]) -
             return Err(24);
         }
         let (out, rest) = words.split_at_mut_checked(elements as usize).ok_or(20u32)?;
-        fill(column_type, bits, content, out);
+        fill(column_type, bits, content, out, &planes);
         Ok(rest)
     })
 }
 
-fn fill(column_type: u32, bits: u16, content: &[u8], out: &mut [u64]) {
+fn fill(column_type: u32, bits: u16, content: &[u8], out: &mut [u64], planes: impl Fn(&[u8], &mut [u64])) {
     let split = matches!(column_type, 0x0E..=0x15 | 0x1A..=0x1C);
     match (bits, split) {
         (1, _) => unpack(content, out),
@@ -115,17 +122,42 @@ fn whole<const K: usize>(content: &[u8], out: &mut [u64], number: impl Fn([u8; K
     }
 }
 
-fn planes(content: &[u8], out: &mut [u64]) {
-    if out.is_empty() {
-        return;
-    }
-    for (plane, bytes) in content.chunks_exact(out.len()).enumerate() {
+/// One plane after the other.
+fn in_turn(content: &[u8], out: &mut [u64]) {
+    let elements = out.len().max(1);
+    for (plane, bytes) in content.chunks_exact(elements).enumerate() {
         let words = out.iter_mut().zip(bytes);
         if plane == 0 {
             words.for_each(|(word, &byte)| *word = byte.into());
         } else {
             words.for_each(|(word, &byte)| *word |= u64::from(byte) << (8 * plane));
         }
+    }
+}
+
+/// One element after the other, a byte of each plane.
+fn side_by_side(content: &[u8], out: &mut [u64]) {
+    let elements = out.len();
+    let plane = |k: usize| &content[k * elements..][..elements];
+    let words = out.iter_mut();
+    match content.len().checked_div(elements) {
+        Some(2) => {
+            for ((word, &a), &b) in words.zip(plane(0)).zip(plane(1)) {
+                *word = u16::from_le_bytes([a, b]).into();
+            }
+        }
+        Some(4) => {
+            for ((((word, &a), &b), &c), &d) in words.zip(plane(0)).zip(plane(1)).zip(plane(2)).zip(plane(3)) {
+                *word = u32::from_le_bytes([a, b, c, d]).into();
+            }
+        }
+        Some(_) => {
+            let planes: [&[u8]; 8] = std::array::from_fn(plane);
+            for (i, word) in words.enumerate() {
+                *word = u64::from_le_bytes(std::array::from_fn(|k| planes[k][i]));
+            }
+        }
+        None => {}
     }
 }
 
@@ -143,7 +175,7 @@ fn unpack(content: &[u8], out: &mut [u64]) {
 }
 
 /// The same with the independent decoder of pages.
-pub fn by_pages(column_type: u32, table: &[u64], file: &[u8], words: &mut [u64]) -> Result<usize, (u32, usize)> {
+fn by_pages(column_type: u32, table: &[u64], file: &[u8], words: &mut [u64]) -> Result<usize, (u32, usize)> {
     each_page(table, words, |row, words| {
         let [_, _, elements, checksum] = row;
         pages::known(column_type, elements)?;
@@ -173,7 +205,8 @@ fn single_calls(column_type: u32, table: &[u64], file: &[u8], words: &mut [u64])
 fn column(random: &mut Random, column_type: u32, checksum: bool) -> (Vec<u64>, Vec<u8>) {
     let bits = usize::from(stored_bits(column_type).expect("a known type"));
     let size = PAGE_ELEMENTS * bits / 8;
-    let (mut table, mut file) = (Vec::new(), Vec::new());
+    // Half a memory page before the first, so that no load waits for a store.
+    let (mut table, mut file) = (Vec::new(), vec![0; 2_048]);
     for _ in 0..PAGES {
         table.extend([file.len(), size, PAGE_ELEMENTS, checksum.into()].map(|number| number as u64));
         let page = random.bytes(size);
@@ -200,7 +233,7 @@ const COLUMNS: [(u32, bool); 10] = [
     (0x11, true),
 ];
 
-/// Two lines for each column: beside the faster of the Rust loops, and beside
+/// Two lines for each column: beside the fastest of the Rust loops, and beside
 /// single calls.
 pub fn lines(random: &mut Random) {
     for (column_type, checksum) in COLUMNS {
@@ -225,7 +258,10 @@ pub fn lines(random: &mut Random) {
                     accepted(result, single_calls(column_type, black_box(table), file, words))
                 }),
                 ("Rust", &|(words, result)| {
-                    accepted(result, decode(column_type, black_box(table), file, words))
+                    accepted(result, decode(column_type, black_box(table), file, words, in_turn))
+                }),
+                ("Rust, zip", &|(words, result)| {
+                    accepted(result, decode(column_type, black_box(table), file, words, side_by_side))
                 }),
                 ("Rust pages", &|(words, result)| {
                     accepted(result, by_pages(column_type, black_box(table), file, words))
@@ -276,7 +312,12 @@ mod tests {
 
     #[test]
     fn they_answer_as_the_reference() {
-        compare(|column_type, pages, file, words, result| told(result, || decode(column_type, pages, file, words)));
+        compare(|column_type, pages, file, words, result| {
+            told(result, || decode(column_type, pages, file, words, in_turn))
+        });
+        compare(|column_type, pages, file, words, result| {
+            told(result, || decode(column_type, pages, file, words, side_by_side))
+        });
         compare(|column_type, pages, file, words, result| told(result, || by_pages(column_type, pages, file, words)));
     }
 
@@ -290,7 +331,7 @@ mod tests {
             let (table, file) = column(&mut random, column_type, checksum);
             let (mut words, mut due) = (vec![0; ELEMENTS], vec![0; ELEMENTS]);
             assert_eq!(single_calls(column_type, &table, &file, &mut words), Ok(PAGES));
-            assert_eq!(decode(column_type, &table, &file, &mut due), Ok(PAGES));
+            assert_eq!(decode(column_type, &table, &file, &mut due, in_turn), Ok(PAGES));
             assert!(words == due);
         }
     }

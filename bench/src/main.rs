@@ -864,10 +864,13 @@ fn main() -> ExitCode {
     println!(
         "copy it (\"Rust draft\", the independent writer); all write the same bytes, those that are lent and no more."
     );
-    println!("For columns, of {} pages with {} elements each, the others are a Rust loop with the same checks (\"Rust\"), the independent decoder", differential::reference::columns::PAGES, ELEMENTS / 256);
     println!(
-        "page by page (\"Rust pages\"), and in a line of its own the library's single call for each page (\"single\")."
+        "For columns, of {} pages with {} elements each, the others are Rust loops with the same checks: split pages a",
+        columns::PAGES,
+        columns::PAGE_ELEMENTS
     );
+    println!("plane at a time (\"Rust\") or an element at a time (\"Rust, zip\"), and the independent decoder of pages (\"Rust");
+    println!("pages\"); in a line of its own, the library's single call for each page (\"single\").");
     println!("For listings the others read the header likewise (\"read, list\": by the library), gather the children of each field and");
     println!("write the lines into the lent bytes, or make them elsewhere and copy them (\"Rust draft\").");
     println!();
