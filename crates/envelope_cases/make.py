@@ -5,7 +5,7 @@ Each case has its bytes and the answer that documents 01 and 02 give for them, b
 import os
 import zlib
 
-from parts import EMPTY, LONGEST, NONE, TOO_SHORT, checksum_of, envelope, flipped, items, page_bytes, record, string, table, u16, u32, u64, words_of, write_files
+from parts import EMPTY, LONGEST, NONE, TOO_SHORT, checksum_of, envelope, flipped, items, page_bytes, record, string, summed, table, u16, u32, u64, words_of, write_files
 
 CASES = []  # (name, bytes, what is printed)
 
@@ -672,10 +672,6 @@ def decoded(name, column_type, content, values, words=None, start=0, checksum=0)
 
 def not_decoded(number, name, column_type, elements, content, words=4, start=0, checksum=0):
     decode(name, column_type, elements, content, words, start, checksum, f" refused 4 {number}" + table(words, old=NINES))
-
-
-def summed(content):
-    return content + u32(zlib.crc32(content))
 
 
 BITS = (1, 0, 0, 0, 0, 0, 0, 0, 1)

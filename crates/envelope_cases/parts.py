@@ -1,4 +1,4 @@
-"""The parts of an envelope, and the files of a program that runs cases: for envelope_cases, write_cases and list_cases."""
+"""The parts of an envelope, and the files of a program that runs cases: for envelope_cases, write_cases, list_cases and column_cases."""
 
 import os
 import shutil
@@ -12,6 +12,9 @@ NONE = 1 << 32
 TOO_SHORT = 4294967295
 # Of more lent bytes checksums are shown.
 SHOWN_BYTES = 128
+# The bits of each column type.
+BITS = dict(enumerate([64, 32, 96, 8, 8, 1, 64, 32, 16, 64, 32, 16, 8, 64, 32, 64, 32, 16, 64, 32, 16, 64, 32, 16, 8, 64, 32, 16], 1))
+assert BITS[0x1C] == 16 and BITS[0x1B] == 32 and len(BITS) == 28
 
 
 def u16(n):
@@ -30,9 +33,18 @@ def words_of(numbers):
     return b"".join(u64(n) for n in numbers)
 
 
-def envelope(payload, version=1, minimum=1):
-    content = u16(version) + u16(minimum) + payload
+def rows_of(words, table_words):
+    """The whole rows of a table; the words left over are none."""
+    return [table_words[i : i + words] for i in range(0, len(table_words) - words + 1, words)]
+
+
+def summed(content):
+    """Bytes with their checksum behind them."""
     return content + u32(zlib.crc32(content))
+
+
+def envelope(payload, version=1, minimum=1):
+    return summed(u16(version) + u16(minimum) + payload)
 
 
 def string(text=b""):

@@ -10,13 +10,9 @@ import zlib
 HERE = os.path.dirname(os.path.abspath(__file__))
 sys.path.insert(0, os.path.join(HERE, "..", "envelope_cases"))
 
-from parts import EMPTY, LONGEST, NONE, checksum_of, envelope, flipped, items, printed, record, string, table, u16, u32, u64, words_of, write_files
+from parts import BITS, EMPTY, LONGEST, NONE, checksum_of, envelope, flipped, items, printed, record, rows_of, string, table, u16, u32, u64, words_of, write_files
 
 CASES = []  # (name, bytes, what is printed)
-
-# The bits of each column type.
-BITS = dict(enumerate([64, 32, 96, 8, 8, 1, 64, 32, 16, 64, 32, 16, 8, 64, 32, 64, 32, 16, 64, 32, 16, 64, 32, 16, 8, 64, 32, 16], 1))
-assert BITS[0x1C] == 16 and BITS[0x1B] == 32 and len(BITS) == 28
 
 FIELD_WORDS, COLUMN_WORDS, ALIAS_WORDS, CLUSTER_WORDS, LINK_WORDS, PAGE_WORDS = 15, 4, 2, 5, 2, 5
 
@@ -34,11 +30,6 @@ def fits(bits, n):
     """A number that has so many bits."""
     refuse_if(n >> bits, 25)
     return n
-
-
-def rows_of(words, table_words):
-    """The whole rows of a table; the words left over are none."""
-    return [table_words[i : i + words] for i in range(0, len(table_words) - words + 1, words)]
 
 
 # A header of tables.

@@ -1,4 +1,4 @@
--- One page of a column as the code has it, and the pages in turn.
+-- A page's range as the code has it, and the loop over the pages.
 -- Assumes nothing.
 use mathlib.Core.Path.{_≡_, refl, sym, ap, _∙_}
 use mathlib.Core.Bool.{Bool, true, false, false≢true}
@@ -15,60 +15,10 @@ use Rattle.outcome.specs.Outcome.{Outcome, isAccepted}
 use Rattle.rows.specs.Tables.{rowsIn, firstRows}
 use Rattle.rows.proofs.FirstRows.{rows-length, row-at}
 use Rattle.locator.specs.Locator.{inFile}
-use Rattle.page_rules.specs.Page.{accept, refuse, unless, readable, mostElements, asked, decodeOutcome, decoded}
-use Rattle.page_rules.proofs.Decoding.{decodes, accepted}
+use Rattle.page_rules.specs.Page.{accept, refuse}
 use Rattle.column_rules.specs.declared.ColumnPage.{ColumnPage}
 use Rattle.column_rules.specs.Column.{Decoding, acceptAll, refuseAt, columnPageWidth, columnPage, columnPages, inside, pageBytes, pageOutcome, pageDecoded, inTurn, wholeColumn}
-
-module _ (t : ℕ) (file : List ℕ) (p : ColumnPage) (old : List ℕ) (start : ℕ) where
-  abbrev single : Outcome
-  single = decodeOutcome t (p .elements) (p .checksum) (pageBytes file p) (length old) start
-
-  abbrev answer : Outcome
-  answer = pageOutcome t file p (length old) start
-
-  abbrev left : List ℕ
-  left = pageDecoded t file p old start
-
-  -- in the file part a page is as the single call has it
-  pub is-single : inside file p ≡ true → (single ≡ answer) × (decoded t (p .elements) (p .checksum) (pageBytes file p) old start ≡ left)
-  unfolding pageOutcome pageDecoded decodeOutcome
-  is-single h = (rw h (by (readable t) (leb (p .elements) mostElements) _), rw h)
-    where
-      by : (a b : Bool) (x : Outcome) → unless a 23 (unless b 10 x) ≡ unless a 23 (unless b 10 (unless a 23 (unless b 10 x)))
-      by true true x = refl
-      by true false x = refl
-      by false b x = refl
-
-  -- outside it there is no single call
-  pub is-outside : inside file p ≡ false → (asked t (p .elements) (refuse 18) ≡ answer) × (old ≡ left)
-  unfolding pageOutcome pageDecoded
-  is-outside h = (rw h, rw h)
-
-  -- a page that is accepted has room, and says how many elements there are
-  pub page-accepted : isAccepted answer ≡ true → (accept (p .elements) ≡ answer) × (start + p .elements ≤ length old)
-  page-accepted e = by (inside file p) refl
-    where
-      outside-refused : (a b : Bool) → isAccepted (unless a 23 (unless b 10 (refuse 18))) ≡ true → ⊥
-      outside-refused true true h = false≢true h
-      outside-refused true false h = false≢true h
-      outside-refused false b h = false≢true h
-
-      by : (b : Bool) → inside file p ≡ b → (accept (p .elements) ≡ answer) × (start + p .elements ≤ length old)
-      by true h =
-          let d = decodes t (p .elements) (p .checksum) (pageBytes file p) (length old) start (ap isAccepted (is-single h .0) ∙ e) in
-          (accepted t (p .elements) (p .checksum) (pageBytes file p) (length old) start (d .sized) (d .right) (d .clear) (le-leb _ _ (d .room)) ∙ is-single h .0, d .room)
-      by false h = absurd (outside-refused (readable t) (leb (p .elements) mostElements) (ap isAccepted (is-outside h .0) ∙ e))
-
-  -- the pages from this one on
-  module _ (ps : List ColumnPage) (i : ℕ) where
-    turn-accepted : isAccepted answer ≡ true → inTurn t file (p ∷ ps) i start old ≡ inTurn t file ps (suc i) (start + p .elements) left
-    unfolding inTurn
-    turn-accepted e = rw e
-
-    turn-refused : isAccepted answer ≡ false → inTurn t file (p ∷ ps) i start old ≡ record { outcome = refuseAt (answer .number) i; words = left }
-    unfolding inTurn
-    turn-refused e = rw e
+use Rattle.column_rules.proofs.TurnLaws.{page-accepted, page-refused, turn-accepted, turn-refused}
 
 -- the code's verdict on a page's range, and the part that it lends
 pub verdict-inside : (file : List ℕ) (p : ColumnPage) (behind r : ℕ) → behind ≡ trailer (p .checksum) → r ≡ inFile (length file) (p .size) behind (p .offset)
@@ -120,10 +70,10 @@ module _ (t : ℕ) (file table old : List ℕ) where
         → new ≡ pageDecoded t file p now start → length new ≡ length now → Reached t file table old (i + 1) (start + n) new
     reached-more {n} {new} {p} h e answers leaves l =
         let a = page-accepted t file p now start (ap isAccepted (sym answers)) in
-        let count : n ≡ p .elements = ap (λ (o : Outcome). getD (o .counts) 0 0) (answers ∙ sym (a .0)) in
+        let count : n ≡ p .elements = ap (λ (o : Outcome). getD (o .counts) 0 0) (answers ∙ a .answers) in
         record {
           same = next h e ∙ turn-accepted t file p now start _ i (ap isAccepted (sym answers)) ∙ rw (count, leaves, add-one i);
-          room = omega (arith, a .1);
+          room = omega (arith, a .room);
           long = l ∙ r .long;
           most = omega arith;
         }
@@ -132,7 +82,8 @@ module _ (t : ℕ) (file table old : List ℕ) where
         → new ≡ pageDecoded t file p now start → rowsIn columnPageWidth table ≤ 256
         → record { outcome = refuseAt k i; words = new } ≡ wholeColumn t file table old
     reached-refused {p = p} h e answers leaves few =
-        sym (next h e ∙ turn-refused t file p now start _ i (ap isAccepted (sym answers)) ∙ rw (← answers, ← leaves)) ∙ few-enough few
+        let no = ap isAccepted (sym answers) in
+        sym (next h e ∙ turn-refused t file p now start _ i no ∙ rw (← answers, leaves, page-refused t file p now start no)) ∙ few-enough few
 
     pub reached-all : rowsIn columnPageWidth table ≤ i → rowsIn columnPageWidth table ≤ 256 → record { outcome = acceptAll (rowsIn columnPageWidth table); words = now } ≡ wholeColumn t file table old
     unfolding inTurn

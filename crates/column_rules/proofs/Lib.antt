@@ -1,1 +1,7 @@
+pub mod TurnLaws
+pub mod Ends
+pub mod FrontRows
+pub mod Statements
+pub mod SingleCalls
 pub mod Unreadable
+pub mod Samples

@@ -1,3 +1,4 @@
 pub mod Column
 pub mod SingleCalls
 pub mod Statements
+pub mod Samples

@@ -1,5 +1,5 @@
 -- What holds of every call on a column.
-use Prim.Native.Nat.{ℕ, suc, _*_, _≤_, _<_}
+use Prim.Native.Nat.{ℕ, suc, _+_, _*_, _≤_, _<_}
 use mathlib.Core.List.{List, [], _∷_, _++_}
 use mathlib.Core.Logic.{_⊎_}
 use mathlib.Core.Bool.{true}
@@ -14,6 +14,11 @@ use Rattle.column_rules.specs.Column.{acceptAll, refuseAt, columnPageWid
 -- the elements of a page in a part of a file
 abbrev pub pageElements : ℕ → List ℕ → ColumnPage → List ℕ
 pageElements t file p = elements t (p .elements) (pageBytes file p)
+
+-- how many elements pages have together, by their rows
+unfoldable pub elementsOf : List ColumnPage → ℕ
+elementsOf [] = 0
+elementsOf (p ∷ ps) = p .elements + elementsOf ps
 
 -- The lent words have the elements of the pages before the refused one, or of all where none is refused: page after page from the first word
 -- on, without gaps. Beyond them they are as they were.

@@ -7,20 +7,22 @@ use Prim.Native.Nat.{ℕ, _+_, _*_, _-_, _/_, _%_, _^_, _<_, _≤_}
 use native.Mathlib.Nat.{mul-comm, mul-assoc, one-mul, mod-eq-of-lt}
 use native.Mathlib.Omega.{arith}
 use lib.Dec.{eqb, ltb}
-use borrow.Author.Tests.{ltb-true, ltb-false, lt-ltb, le-ltb}
+use borrow.Author.Tests.{eqb-true, ltb-true, ltb-false, lt-ltb, le-ltb}
 use lib.Pow.{pow-lt}
-use lib.ListN.{length, take, drop}
-use lib.Seq.{take-at, drop-at}
+use lib.ListN.{length, take, drop, length-append, length-drop, length-map}
+use lib.Seq.{take-at, drop-at, length-take-le}
 use Rattle.planes.proofs.Words.{bytes-power}
 use Rattle.column_type.specs.Types.{widthOf, split, delta, zigzag}
-use Rattle.coding.specs.Layout.{unplanes, unplain, unpacked, largest}
+use Rattle.coding.specs.Layout.{unplanes, unplain, unpacked, unzigzagged, largest}
 use Rattle.numbers.specs.Rows.{over}
-use Rattle.page_rules.specs.Page.{sizeOf, laid, elements}
+use Rattle.page_rules.specs.Page.{readable, sizeOf, chosen, laid, elements}
 use Rattle.coding.specs.Inverses.{Below}
+use Rattle.coding.proofs.Bits.{length-unpacked}
+use Rattle.coding.proofs.Delta.{length-sums}
 use Rattle.coding.proofs.Plain.{length-unplain}
 use Rattle.coding.proofs.Planes.{length-unplanes}
 use Rattle.coding.proofs.Strided.{below-unplanes, below-unplain}
-use Rattle.page_rules.proofs.Types.{OfBytes, whole}
+use Rattle.page_rules.proofs.Types.{OfBytes, of-bytes, whole}
 
 -- written over
 
@@ -30,6 +32,27 @@ take-over l d n e = take-at l (drop (length l) d) n e
 pub over-over : (k l d : List ℕ) → length k ≡ length l → over k (over l d) ≡ over k d
 over-over k l d e =
     ap (λ (t : List ℕ). k ++ t) (ap (λ (n : ℕ). drop n (over l d)) e ∙ drop-at l (drop (length l) d) (length l) refl ∙ ap (λ (n : ℕ). drop n d) (sym e))
+
+-- words that are written over others from `start` on stand there, and all are as many as before
+module _ (old xs : List ℕ) (start n : ℕ) (many : length xs ≡ n) (h : start + n ≤ length old) where
+  abbrev left : List ℕ
+  left = take start old ++ over xs (drop start old)
+
+  front : length (take start old) ≡ start
+  front = length-take-le start old (omega arith)
+
+  pub chosen-left : chosen n left start ≡ xs
+  chosen-left =
+      ap (take n) (drop-at (take start old) (over xs (drop start old)) start front) ∙ take-over xs (drop start old) n many
+
+  pub length-left : length left ≡ length old
+  length-left =
+      let a = length-append (take start old) (over xs (drop start old)) in
+      let b = length-append xs (drop (length xs) (drop start old)) in
+      let c = length-drop (length xs) (drop start old) in
+      let d = length-drop start old in
+      let f = front in
+      omega arith
 
 -- powers and sizes
 
@@ -117,3 +140,16 @@ elements-zigzag t n bs d z = simp (d, z)
 pub elements-laid : (t n : ℕ) (bs : List ℕ) → delta t ≡ false → zigzag t ≡ false → elements t n bs ≡ laid t n bs
 unfolding elements
 elements-laid t n bs d z = simp (d, z)
+
+-- a page that is long enough has as many elements as are asked for
+pub length-elements : (t n : ℕ) (bs : List ℕ) → readable t ≡ true → sizeOf t n ≤ length bs → length (elements t n bs) ≡ n
+length-elements t n bs r h = by (eqb t 6) refl
+  where
+    of-whole-bytes : OfBytes t → eqb t 6 ≡ false → (d z : Bool) → delta t ≡ d → zigzag t ≡ z → length (elements t n bs) ≡ n
+    of-whole-bytes o b true z p q = ap length (elements-delta t n bs p) ∙ length-sums (widthOf t) 0 (laid t n bs) ∙ length-laid t n bs o b h
+    of-whole-bytes o b false true p q = ap length (elements-zigzag t n bs p q) ∙ length-map (laid t n bs) (unzigzagged (widthOf t)) ∙ length-laid t n bs o b h
+    of-whole-bytes o b false false p q = ap length (elements-laid t n bs p q) ∙ length-laid t n bs o b h
+
+    by : (b : Bool) → eqb t 6 ≡ b → length (elements t n bs) ≡ n
+    by true b = ap length (elements-bit t n bs (eqb-true t 6 b)) ∙ length-unpacked n 0 bs
+    by false b = of-whole-bytes (of-bytes t r b) b (delta t) (zigzag t) refl refl

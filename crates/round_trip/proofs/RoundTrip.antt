@@ -9,7 +9,7 @@ use native.Mathlib.Nat.{mul-comm, pow-succ'}
 use native.Mathlib.Omega.{arith}
 use lib.Dec.{ltb, eqb, lit<}
 use lib.Pow.{pow-pos}
-use lib.ListN.{length, take, drop, getD, length-append, length-drop, length-map, List·getD-append, take-append-drop}
+use lib.ListN.{length, take, drop, getD, length-append, length-drop, List·getD-append, take-append-drop}
 use lib.Seq.{take-at, take-all, drop-at, length-take-le}
 use borrow.Author.Tests.{eqb-true, eqb-false, eq-eqb, ltb-true, lt-ltb, le-leb}
 use Rattle.numbers.specs.Choice.{pick}
@@ -23,13 +23,13 @@ use Rattle.outcome.specs.Outcome.{isAccepted}
 use Rattle.coding.specs.Inverses.{Below}
 use Rattle.numbers.specs.Rows.{over}
 use Rattle.coding.proofs.Below.{below-map, below-drop, fit-below, below-fit}
-use Rattle.coding.proofs.Delta.{sums-deltas, deltas-sums, below-deltas, below-sums, length-sums}
+use Rattle.coding.proofs.Delta.{sums-deltas, deltas-sums, below-deltas, below-sums}
 use Rattle.coding.proofs.Zigzag.{zigzagged-below, unzigzagged-below, unzigzag-zigzags, zigzag-unzigzags}
 use Rattle.coding.proofs.Planes.{unplanes-planes, planes-unplanes}
 use Rattle.coding.proofs.Plain.{unplain-plain, plain-unplain, length-bytesOf, little-bytesOf, little-drop, bytesOf-little}
 use Rattle.coding.proofs.Bits.{unpacked-packed, packed-unpacked, length-packed, getD-packed, length-unpacked, below-unpacked}
 use Rattle.page_rules.proofs.Types.{OfBytes, of-bytes, of-zigzag, width-pos, bit-width, bit-size}
-use Rattle.page_rules.proofs.Laid.{take-over, power-of, size-of, length-laid, below-laid, laid-split, laid-plain, elements-bit, elements-delta, elements-zigzag, elements-laid}
+use Rattle.page_rules.proofs.Laid.{take-over, power-of, size-of, below-laid, laid-split, laid-plain, elements-bit, elements-delta, elements-zigzag, elements-laid, length-elements, chosen-left, length-left}
 use Rattle.coding.proofs.Places.{length-coded}
 use Rattle.page_rules.proofs.Encoding.{bytes-bit, bytes-whole, length-bytes, Encodes, encodes, counted, encoded-accepted, accepted as encoding-accepted}
 use Rattle.page_rules.proofs.Decoding.{Decodes, decodes, decoded-accepted, clear-other, clear-whole, clear-byte, accepted}
@@ -104,11 +104,6 @@ module _ (t : ℕ) (o : OfBytes t) (b : eqb t 6 ≡ false) where
       subst⁻¹ (Below (2 ^ w)) (elements-zigzag t n bs p q)
       (below-map (2 ^ w) (2 ^ w) (unzigzagged w) (laid t n bs) (unzigzagged-below w (width-pos (of-zigzag t o q))) h)
   below-elements n bs h false false p q = subst⁻¹ (Below (2 ^ w)) (elements-laid t n bs p q) h
-
-  length-elements : (n : ℕ) (bs : List ℕ) → sizeOf t n ≤ length bs → (d z : Bool) → delta t ≡ d → zigzag t ≡ z → length (elements t n bs) ≡ n
-  length-elements n bs h true z p q = ap length (elements-delta t n bs p) ∙ length-sums w 0 (laid t n bs) ∙ length-laid t n bs o b h
-  length-elements n bs h false true p q = ap length (elements-zigzag t n bs p q) ∙ length-map (laid t n bs) (unzigzagged w) ∙ length-laid t n bs o b h
-  length-elements n bs h false false p q = ap length (elements-laid t n bs p q) ∙ length-laid t n bs o b h
 
 -- Bit
 
@@ -194,12 +189,12 @@ fitting-elements t n bs r h g = go (eqb t 6) refl
     go true e =
         let six = eqb-true t 6 e in (
           ap₂ fit (bit-width t six) (elements-bit t n bs six) ∙ below-fit 1 (unpacked n 0 bs) (below-unpacked n 0 bs),
-          ap length (elements-bit t n bs six) ∙ length-unpacked n 0 bs,
+          length-elements t n bs r h,
         )
     go false e =
         let o = of-bytes t r e in (
           below-fit (widthOf t) (elements t n bs) (below-elements t o e n bs (below-laid t n bs o e h g) (delta t) (zigzag t) refl refl),
-          length-elements t o e n bs h (delta t) (zigzag t) refl refl,
+          length-elements t n bs r h,
         )
 
 -- the checksum behind a page
@@ -311,28 +306,7 @@ back-and-there t n checksum page lent at p g =
           (le-leb (start + n) (length words) h) (omega arith) (ap (fit (widthOf t)) c ∙ f .0));
     }
 
--- the words that such a call leaves have the elements from `start` on, and are as many as before
-module _ (old xs : List ℕ) (start n : ℕ) (many : length xs ≡ n) (h : start + n ≤ length old) where
-  abbrev left : List ℕ
-  left = take start old ++ over xs (drop start old)
-
-  front : length (take start old) ≡ start
-  front = length-take-le start old (omega arith)
-
-  chosen-left : chosen n left start ≡ xs
-  chosen-left =
-      ap (take n) (drop-at (take start old) (over xs (drop start old)) start front) ∙ take-over xs (drop start old) n many
-
-  length-left : length left ≡ length old
-  length-left =
-      let a = length-append (take start old) (over xs (drop start old)) in
-      let b = length-append xs (drop (length xs) (drop start old)) in
-      let c = length-drop (length xs) (drop start old) in
-      let d = length-drop start old in
-      let f = front in
-      omega arith
-
--- so an accepted decoding leaves its elements from `start` on, and room for them
+-- an accepted decoding leaves its elements from `start` on, and room for them
 module _ (t n : ℕ) (checksum : Bool) (page out : List ℕ) (start : ℕ) (g : Below 256 page) (e : isAccepted (decodeOutcome t n checksum page (length out) start) ≡ true) where
   passed : Decodes t n checksum page (length out) start
   passed = decodes t n checksum page (length out) start e

@@ -10,7 +10,8 @@ use borrow.Author.Tests.{eq-eqb, ne-eqb}
 use borrow.Author.Needs.{needs}
 use Rattle.page_rules.specs.Page.{decodeOutcome, decoded}
 use Rattle.column_rules.specs.Column.{inside}
-use Rattle.column_decoding.proofs.Turns.{is-single, is-outside, verdict-inside, inside-within, part-is}
+use Rattle.column_rules.proofs.TurnLaws.{is-single, is-outside}
+use Rattle.column_decoding.proofs.Turns.{verdict-inside, inside-within, part-is}
 use Rattle.column_decoding.proofs.decode_one.Statement.{statement}
 use Rattle.column_decoding.proofs.decode_one.Tie as tie
 
@@ -35,7 +36,7 @@ returns : tie.Need-returns
 returns c = let a = c .before .before .before .before .before .before .args in
     let o = is-outside (a .column-type) (now (a .file)) (a .page) (now (a .out)) (a .start)
     (sym (verdict-inside (now (a .file)) (a .page) _ _ (c .before .before .before .trailer-size .ensures) (c .before .before .in-file .ensures)) ∙ ne-eqb _ 0 (c .before .if1 .taken)) in
-    (c .outside-answer .ensures ∙ o .0, o .1)
+    (c .outside-answer .ensures ∙ sym (o .0), sym (o .1))
 
 add-to : tie.Need-add-to
 add-to c = omega (arith, within c)
@@ -63,8 +64,8 @@ returns-2 c = let a = c .before .before .before .before .before .before .before 
     let inner : tie.Else1 = c .before .before .before .before .before in
     let single = is-single (a .column-type) (now (a .file)) (a .page) (now (a .out)) (a .start) (is-inside inner) in
     let part = part-is (now (a .file)) (a .page) _ (inner .before .before .trailer-size .ensures) in (
-      c .before .before .decode-page .ensures .0 ∙ ap (λ (l : List ℕ). decodeOutcome (a .column-type) (a .page .elements) (a .page .checksum) l (length (now (a .out))) (a .start)) part ∙ single .0,
-      c .before .before .decode-page .ensures .1 ∙ ap (λ (l : List ℕ). decoded (a .column-type) (a .page .elements) (a .page .checksum) l (now (a .out)) (a .start)) part ∙ single .1,
+      c .before .before .decode-page .ensures .0 ∙ ap (λ (l : List ℕ). decodeOutcome (a .column-type) (a .page .elements) (a .page .checksum) l (length (now (a .out))) (a .start)) part ∙ sym (single .0),
+      c .before .before .decode-page .ensures .1 ∙ ap (λ (l : List ℕ). decoded (a .column-type) (a .page .elements) (a .page .checksum) l (now (a .out)) (a .start)) part ∙ sym (single .1),
     )
 
 pub decode-one-spec : {M : Type 1} → statement M

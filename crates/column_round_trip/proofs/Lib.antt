@@ -1,0 +1,2 @@
+pub mod ColumnRoundTrip
+pub mod Samples
