@@ -1,13 +1,12 @@
 //! Columns of many small pages: the library's one call beside single calls for
 //! one page after the other, and beside Rust loops with the same checks.
 
-use crate::{contest, line_beside, per_element, ELEMENTS};
+use crate::{contest, line_beside, per_element, Times, ELEMENTS};
 use differential::generate::random::Random;
 pub use differential::reference::columns::PAGES;
 use differential::reference::columns::ROW_WORDS;
 use differential::reference::crc::crc32;
 use differential::reference::pages::{self, stored_bits};
-use differential::reference::{refusal, PAGE};
 use differential::{calls, reference};
 use std::hint::black_box;
 
@@ -17,14 +16,6 @@ const BIT: u32 = 6;
 /// So many elements each page has; together they are as many as those of the
 /// large pages of this benchmark.
 pub const PAGE_ELEMENTS: usize = ELEMENTS / PAGES;
-
-/// An answer as the exported call gives it, and the result.
-fn answer(decoded: Result<usize, (u32, usize)>) -> (u32, u64) {
-    match decoded {
-        Ok(count) => (0, count as u64),
-        Err((number, index)) => (refusal(PAGE, number), index as u64),
-    }
-}
 
 /// Calls `page` for each row with the rest of the words, which it shortens by
 /// its own.
@@ -218,8 +209,9 @@ fn column(random: &mut Random, column_type: u32, checksum: bool) -> (Vec<u64>, V
     (table, file)
 }
 
-/// Whether it is plain, split, with delta or zigzag, and how wide; and whether
-/// its pages have checksums.
+/// The types that are measured, and whether their pages have checksums: 64 and 32
+/// bits whole, 32 bits split, 64 bits split with deltas and with zigzag, 16 bits
+/// split, 8 bits, and Bit.
 const COLUMNS: [(u32, bool); 10] = [
     (0x07, false),
     (0x08, false),
@@ -233,45 +225,53 @@ const COLUMNS: [(u32, bool); 10] = [
     (0x11, true),
 ];
 
+/// The name of the library's single calls in the table.
+const SINGLE: &str = "single";
+
+/// The lent words and the result of a column call.
+type Lent = (Vec<u64>, [u64; 1]);
+
+/// One of the Rust loops, or single calls.
+type Decode<'a> = &'a dyn Fn(&mut [u64]) -> Result<usize, (u32, usize)>;
+
+/// What it leaves where it accepts.
+fn leave((words, result): &mut Lent, decode: Decode) {
+    *result = [decode(words).expect("a right column") as u64];
+}
+
+/// The times of one column.
+fn times(column_type: u32, table: &[u64], file: &[u8]) -> Times {
+    let singles: Decode = &|words| single_calls(column_type, black_box(table), file, words);
+    let turn: Decode = &|words| decode(column_type, black_box(table), file, words, in_turn);
+    let zip: Decode = &|words| decode(column_type, black_box(table), file, words, side_by_side);
+    let pages: Decode = &|words| by_pages(column_type, black_box(table), file, words);
+    let mut lent: Lent = (vec![0; ELEMENTS], [0; 1]);
+    let times = contest(
+        &mut lent,
+        &|(words, result)| {
+            let answer = calls::decode_column(column_type, black_box(table), file, words, result);
+            assert_eq!(answer, 0);
+        },
+        &[
+            (SINGLE, &|lent| leave(lent, singles)),
+            ("Rust", &|lent| leave(lent, turn)),
+            ("Rust, zip", &|lent| leave(lent, zip)),
+            ("Rust pages", &|lent| leave(lent, pages)),
+        ],
+        8 * ELEMENTS,
+    );
+    let mut due = vec![0; ELEMENTS];
+    let (answer, result) = reference::decode_column(column_type, table, file, &mut due);
+    assert!(answer == 0 && lent == (due, result));
+    times
+}
+
 /// Two lines for each column: beside the fastest of the Rust loops, and beside
 /// single calls.
 pub fn lines(random: &mut Random) {
     for (column_type, checksum) in COLUMNS {
         let (table, file) = column(random, column_type, checksum);
-        let (table, file) = (&table[..], &file[..]);
-        let mut lent = (vec![0; ELEMENTS], [0; 1]);
-        let accepted = |result: &mut [u64; 1], decoded| {
-            let (answer, count) = answer(decoded);
-            assert_eq!(answer, 0);
-            *result = [count];
-        };
-        let times = contest(
-            &mut lent,
-            &|(words, result)| {
-                assert_eq!(
-                    calls::decode_column(column_type, black_box(table), file, words, result),
-                    0
-                )
-            },
-            &[
-                (SINGLE, &|(words, result)| {
-                    accepted(result, single_calls(column_type, black_box(table), file, words))
-                }),
-                ("Rust", &|(words, result)| {
-                    accepted(result, decode(column_type, black_box(table), file, words, in_turn))
-                }),
-                ("Rust, zip", &|(words, result)| {
-                    accepted(result, decode(column_type, black_box(table), file, words, side_by_side))
-                }),
-                ("Rust pages", &|(words, result)| {
-                    accepted(result, by_pages(column_type, black_box(table), file, words))
-                }),
-            ],
-            8 * ELEMENTS,
-        );
-        let mut due = vec![0; ELEMENTS];
-        let (answer, result) = reference::decode_column(column_type, table, file, &mut due);
-        assert!(answer == 0 && lent == (due, result));
+        let times = times(column_type, &table, &file);
         let with = if checksum { ", checksums" } else { "" };
         let speed = per_element(times.ours);
         let (single, rust) = times.parted(SINGLE);
@@ -280,8 +280,6 @@ pub fn lines(random: &mut Random) {
     }
 }
 
-const SINGLE: &str = "single";
-
 /// They keep the rules: the reference leaves the same on the cases of the
 /// differential test.
 #[cfg(test)]
@@ -289,6 +287,7 @@ mod tests {
     use super::*;
     use differential::compare::{ColumnCall, Comparer};
     use differential::generate::Kind;
+    use differential::reference::{refusal, PAGE};
 
     fn compare(call: ColumnCall) {
         let mut comparer = Comparer::new();
@@ -297,6 +296,14 @@ mod tests {
             comparer
                 .run(1, Kind::Column, case)
                 .unwrap_or_else(|difference| panic!("{difference}"));
+        }
+    }
+
+    /// An answer as the exported call gives it, and the result.
+    fn answer(decoded: Result<usize, (u32, usize)>) -> (u32, u64) {
+        match decoded {
+            Ok(count) => (0, count as u64),
+            Err((number, index)) => (refusal(PAGE, number), index as u64),
         }
     }
 

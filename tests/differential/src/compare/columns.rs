@@ -115,8 +115,15 @@ impl Comparer {
         let Some((answer, index, _)) = singles else {
             return Ok(());
         };
-        if (ours, self.result.ours()[0]) != (answer, index) || *self.tables[0].ours() != again {
-            return Err(told(format!("single calls give {} at {index}", name(answer))));
+        self.as_single_calls((ours, answer), index, &again).map_err(told)
+    }
+
+    /// The library's one call beside its single calls: both answers, the index
+    /// that the single calls give, and the words that they leave.
+    fn as_single_calls(&mut self, answers: (u32, u32), index: u64, words: &[u64]) -> Result<(), String> {
+        let (ours, singles) = answers;
+        if ours != singles || self.result.ours()[0] != index || self.tables[0].ours() != words {
+            return Err(format!("single calls give {} at {index}", name(singles)));
         }
         self.tally.note(Note::SingleCalls);
         match (ours, index) {

@@ -47,6 +47,29 @@ impl Page {
         file.get_mut(self.offset as usize..usize::try_from(end).ok()?)
     }
 
+    /// Another offset or size, for a file of this length; `what` is below 12.
+    fn spoil_range(&mut self, random: &mut Random, what: u64, length: u64) {
+        let whole = self.size.wrapping_add(self.check_bytes());
+        let size_to = |end: u64| end.wrapping_sub(self.offset).wrapping_sub(self.check_bytes());
+        match what {
+            // The end of the file: right there, and a little further.
+            0 | 1 => self.offset = length.wrapping_sub(whole).wrapping_add(1 + random.below(4)),
+            2 => self.offset = length.wrapping_sub(whole),
+            3 => self.offset = length + random.below(2),
+            4 => self.size = size_to(length + 1 + random.below(4)),
+            5 => self.size = size_to(length),
+            // Sums that are inside again when they wrap at 64 bits.
+            6 => self.offset = random.up_to(length).wrapping_sub(whole),
+            7 => self.size = size_to(random.up_to(length)),
+            8 => self.offset = u64::MAX - random.below(12),
+            9 => self.size = u64::MAX - random.below(12),
+            // The check bytes alone wrap.
+            10 => self.offset = (u64::MAX - random.below(4)).wrapping_sub(self.size),
+            // Right in the low 32 bits.
+            _ => self.offset = self.offset.wrapping_add(1 << (32 + random.below(32))),
+        }
+    }
+
     /// Puts its check bytes right, where it has any and they are in the file.
     fn seal(&self, file: &mut [u8]) {
         let Some(sum) = self.content(file).map(|content| crc32(content)) else {
@@ -231,32 +254,9 @@ impl Draft {
     fn spoil(&mut self, random: &mut Random, index: usize) {
         let length = self.file.len() as u64;
         let page = &mut self.pages[index];
-        let whole = page.size.wrapping_add(page.check_bytes());
         match random.below(24) {
-            // The end of the file: right there, and a little further.
-            0 | 1 => page.offset = length.wrapping_sub(whole).wrapping_add(1 + random.below(4)),
-            2 => page.offset = length.wrapping_sub(whole),
-            3 => page.offset = length + random.below(2),
-            4 => {
-                page.size = (length + 1 + random.below(4))
-                    .wrapping_sub(page.offset)
-                    .wrapping_sub(page.check_bytes())
-            }
-            5 => page.size = length.wrapping_sub(page.offset).wrapping_sub(page.check_bytes()),
-            // Sums that are inside again when they wrap at 64 bits.
-            6 => page.offset = random.up_to(length).wrapping_sub(whole),
-            7 => {
-                page.size = random
-                    .up_to(length)
-                    .wrapping_sub(page.offset)
-                    .wrapping_sub(page.check_bytes())
-            }
-            8 => page.offset = u64::MAX - random.below(12),
-            9 => page.size = u64::MAX - random.below(12),
-            // The check bytes alone wrap.
-            10 => page.offset = (u64::MAX - random.below(4)).wrapping_sub(page.size),
-            // Right in the low 32 bits.
-            11 => page.offset = page.offset.wrapping_add(1 << (32 + random.below(32))),
+            what @ 0..=11 => page.spoil_range(random, what, length),
+            // Right in the low 32 bits, or less.
             12 => page.size = page.size.wrapping_add(1 << (32 + random.below(32))),
             13 => page.elements = page.elements.wrapping_add(1 << (17 + random.below(47))),
             14 => page.elements = ELEMENTS + 1 + random.below(3),
@@ -338,36 +338,37 @@ fn edge(random: &mut Random, place: u64) -> Option<Draft> {
     Some(draft)
 }
 
+/// A column of any pages, as many as there may be or a little more at times.
+fn any(random: &mut Random) -> Draft {
+    let mut draft = Draft::new(known_type(random));
+    let count = page_count(random);
+    draft.fill(random, count);
+    if random.one_in(96) {
+        let count = PAGES + random.index(3);
+        draft.repeat(random, count);
+    }
+    draft
+}
+
 impl Generator {
     pub fn column_case(&mut self) -> ColumnCase {
         let random = &mut self.random;
         let edge = edge(random, self.place);
-        let whole = edge.is_none();
-        let mut draft = edge.unwrap_or_else(|| {
-            let mut draft = Draft::new(known_type(random));
-            let count = page_count(random);
-            draft.fill(random, count);
-            if random.one_in(96) {
-                let count = PAGES + random.index(3);
-                draft.repeat(random, count);
-            }
-            draft
-        });
+        let faults = edge.is_none();
+        let mut draft = edge.unwrap_or_else(|| any(random));
         // What a column without faults needs; a wrong page may ask for more.
-        let needed: u64 = draft.pages.iter().take(PAGES + 1).map(|page| page.elements).sum();
-        let known = draft.column_type;
-        if whole {
-            let wrong = random.pick(&[0, 0, 0, 1, 1, 1, 1, 2, 4]).min(4 * draft.pages.len());
+        let needed = draft.pages.iter().take(PAGES + 1).map(|page| page.elements).sum();
+        let wrong = random.pick(&[0, 0, 0, 1, 1, 1, 1, 2, 4]);
+        if faults && !draft.pages.is_empty() {
             for _ in 0..wrong {
                 let index = random.index(draft.pages.len());
                 draft.spoil(random, index);
             }
         }
-        let column_type = if random.one_in(24) {
-            other_type(random, known)
-        } else {
-            known
-        };
+        let mut column_type = draft.column_type;
+        if random.one_in(24) {
+            column_type = other_type(random, column_type);
+        }
         let mut pages: Vec<u64> = draft.pages.iter().flat_map(Page::row).collect();
         // Left over words, at times those of a row that would be right.
         if random.one_in(3) {
@@ -380,12 +381,7 @@ impl Generator {
             pages,
             words: column_room(random, &draft.pages, needed),
             file: draft.file,
-            result: match random.below(32) {
-                0 => 0,
-                1 | 2 => 2,
-                3 => 64,
-                _ => 1,
-            },
+            result: random.pick(&[0, 2, 2, 64, 1, 1, 1, 1, 1, 1, 1, 1, 1, 1, 1, 1]),
         }
     }
 }
