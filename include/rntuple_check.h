@@ -1,7 +1,7 @@
 /*
  * Reading and writing of RNTuple headers, footers and page lists, listing of a
- * header's fields, and decoding and encoding of pages. All memory is lent by
- * the caller; nothing is kept between calls.
+ * header's fields, decoding and encoding of pages, and decoding of columns. All
+ * memory is lent by the caller; nothing is kept between calls.
  *
  * Every pointer is followed by its number of elements (bytes for uint8_t,
  * words for uint64_t). Where that number is 0 the pointer may be NULL, or any
@@ -51,6 +51,10 @@
  * Tables. Rows stand one after the other. A table has as many rows as fit
  * into its words; left over words are never touched. A refusal changes no
  * table, and on acceptance the rows beyond the count keep their contents.
+ *
+ * One call is an exception: when rnt_decode_column refuses a page, the pages
+ * before it stay decoded, and its result is that page's index. With every
+ * other call a refusal changes nothing that was lent but the result.
  */
 #ifndef RNTUPLE_CHECK_H
 #define RNTUPLE_CHECK_H
@@ -72,6 +76,7 @@ extern "C" {
 #define RNT_CLUSTER_WORDS 5
 #define RNT_LINK_WORDS 2
 #define RNT_PAGE_WORDS 5
+#define RNT_COLUMN_PAGE_WORDS 4
 
 /*
  * In place of a page list's checksum: the footer carries none. It is one more
@@ -87,8 +92,11 @@ extern "C" {
 #define RNT_MOST_LINKS 64
 #define RNT_MOST_PAGES 16384
 
-/* The most elements of one page call. */
+/* The most elements of one page. */
 #define RNT_MOST_ELEMENTS 131072
+
+/* The most pages of one column call. */
+#define RNT_MOST_COLUMN_PAGES 256
 
 /*
  * Reads a header. Refusals have envelope 1.
@@ -309,6 +317,39 @@ uint32_t rnt_decode_page(uint32_t column_type, uint64_t elements,
                          const uint8_t *page, size_t page_length,
                          uint64_t *words, size_t word_count,
                          uint64_t start);
+
+/*
+ * Decodes the pages of a column, one after the other, out of a part of a file.
+ * The elements of the first page start at words[0], and those of each page
+ * follow those of the page before without a gap, as rnt_decode_page writes
+ * them. No word behind the last of them is changed.
+ *
+ * Page row, 4 words: offset in the file part, size without the checksum,
+ * elements, and whether a checksum follows the page (0 says no, any other
+ * number yes). Pages may stand in any order, overlap and share bytes.
+ *
+ * Refusals have envelope 4. More than RNT_MOST_COLUMN_PAGES rows are 10, with
+ * the result RNT_MOST_COLUMN_PAGES, before anything else. No rows are accepted,
+ * whatever the column type is. Otherwise the answer and the words are those of
+ * single calls of rnt_decode_page for one row after the other, up to the first
+ * refusal. For each page in its turn: first 23 (also for a column type above
+ * 65535), then 10, then 18, where offset plus size, plus 4 where a checksum
+ * follows, without wrapping, is more than file_length; then 21, 22, 24 and 20 as
+ * for a single call on the bytes of that range, with the elements of the pages
+ * before it as start.
+ *
+ * When a page is refused, the pages before it stay decoded, and neither its own
+ * words nor those behind are changed. This is the one call where a refusal
+ * leaves earlier work.
+ *
+ * Result, 1 word, also on refusal: the index of the refused page, counted from
+ * 0; on acceptance the number of pages.
+ */
+uint32_t rnt_decode_column(uint32_t column_type,
+                           const uint64_t *pages, size_t page_words,
+                           const uint8_t *file, size_t file_length,
+                           uint64_t *words, size_t word_count,
+                           uint64_t *result, size_t result_words);
 
 /*
  * Encodes elements, taken from words[start] on, into the first bytes of the

@@ -1,7 +1,8 @@
 //! The library beside the fastest of zlib, plain C, plain Rust, Rust's standard
 //! library and the independent reader and writers, and beside memcpy of what it
-//! writes.
+//! writes; for columns also beside its own single calls.
 
+mod columns;
 mod listers;
 mod writers;
 
@@ -57,13 +58,27 @@ fn page_bytes(column_type: u32) -> usize {
 /// Something that is measured: a name, and what it does to lent memory.
 type Contestant<'a, T> = (&'static str, &'a dyn Fn(&mut T));
 
+/// The name and the best time of one of the others.
+type Other = (&'static str, f64);
+
 /// The best times of one call.
 struct Times {
     ours: f64,
-    /// The fastest of the others.
-    other: (&'static str, f64),
+    others: Vec<Other>,
     /// A plain copy of as many bytes as the library writes.
     copy: f64,
+}
+
+impl Times {
+    fn fastest<'a>(others: impl Iterator<Item = &'a Other>) -> Other {
+        *others.min_by(|a, b| a.1.total_cmp(&b.1)).expect("somebody else")
+    }
+
+    /// The one of this name, and the fastest of the rest.
+    fn parted(&self, name: &str) -> (Other, Other) {
+        let (named, rest): (Vec<_>, Vec<_>) = self.others.iter().partition(|other| other.0 == name);
+        (Times::fastest(named.iter()), Times::fastest(rest.iter()))
+    }
 }
 
 fn seconds(repeats: usize, contestant: &mut dyn FnMut()) -> f64 {
@@ -112,10 +127,9 @@ fn contest<T: Clone + PartialEq>(
         copy = copy.min(seconds(copy_repeats, &mut copying));
     }
     let names = others.iter().map(|(name, _)| *name);
-    let other = names.zip(best[1..].iter().copied()).min_by(|a, b| a.1.total_cmp(&b.1));
     Times {
         ours: best[0],
-        other: other.expect("somebody else"),
+        others: names.zip(best[1..].iter().copied()).collect(),
         copy,
     }
 }
@@ -123,12 +137,20 @@ fn contest<T: Clone + PartialEq>(
 /// One line of the table: the library's speed, who is the fastest of the
 /// others, and their times and a copy's as parts of the library's.
 fn line(name: &str, speed: String, times: &Times, writes: bool) {
-    let (other, seconds) = times.other;
     let copy = if writes {
         format!("{:.2}", times.copy / times.ours)
     } else {
         "-".to_string()
     };
+    line_of(name, &speed, times, Times::fastest(times.others.iter()), &copy);
+}
+
+/// A line beside this one of the others.
+fn line_beside(name: &str, speed: &str, times: &Times, other: Other) {
+    line_of(name, speed, times, other, &format!("{:.2}", times.copy / times.ours));
+}
+
+fn line_of(name: &str, speed: &str, times: &Times, (other, seconds): Other, copy: &str) {
     let ratio = seconds / times.ours;
     println!("{name:<26} {speed:>16} {other:>10} {ratio:>7.2} {copy:>8}");
 }
@@ -842,6 +864,13 @@ fn main() -> ExitCode {
     println!(
         "copy it (\"Rust draft\", the independent writer); all write the same bytes, those that are lent and no more."
     );
+    println!(
+        "For columns, of {} pages with {} elements each, the others are Rust loops with the same checks: split pages a",
+        columns::PAGES,
+        columns::PAGE_ELEMENTS
+    );
+    println!("plane at a time (\"Rust\") or an element at a time (\"Rust, zip\"), and the independent decoder of pages (\"Rust");
+    println!("pages\"); in a line of its own, the library's single call for each page (\"single\").");
     println!("For listings the others read the header likewise (\"read, list\": by the library), gather the children of each field and");
     println!("write the lines into the lent bytes, or make them elsewhere and copy them (\"Rust draft\").");
     println!();
@@ -860,5 +889,6 @@ fn main() -> ExitCode {
     moves(&mut random);
     written_envelopes(&mut random);
     listings(&mut random);
+    columns::lines(&mut random);
     ExitCode::SUCCESS
 }

@@ -1,5 +1,5 @@
 /* Null pointers with count 0: every call takes them wherever nothing need be read or written; moves along chains; envelopes written
-   and read back; listings of fields; and the constants of the header. */
+   and read back; listings of fields; columns; and the constants of the header. */
 #include "rntuple_check.h"
 #include <stdio.h>
 #include <string.h>
@@ -501,6 +501,8 @@ static void listings(void) {
 
 static void constants(void) {
     same("words of a cluster row", RNT_CLUSTER_WORDS, 5);
+    same("words of a row of a column's pages", RNT_COLUMN_PAGE_WORDS, 4);
+    same("most pages of a column", RNT_MOST_COLUMN_PAGES, 256);
     same("no checksum", RNT_NO_CHECKSUM, (uint64_t)UINT32_MAX + 1);
     same("bytes of no checksum", sizeof RNT_NO_CHECKSUM, sizeof(uint64_t));
 }
@@ -518,6 +520,131 @@ static void pages(void) {
     same("encoding without a result", rnt_encode_page(0x14, 0, 0, NULL, 0, 0, NULL, 0, NULL, 0), RNT_RESULT_TOO_SHORT);
 }
 
+/* A part of a file: bytes 1 to 4 are two elements of type 12, 5 and 6 one with four check bytes behind it, and one more byte is no page's. */
+static uint8_t part[12] = {0xEE, 0x34, 0xCD, 0x12, 0xAB, 0x78, 0x56};
+
+/* Its pages: the first two, one with its checksum, the same bytes without it, none at the end of the part; words behind the last row are
+   no row. */
+#define COLUMN_TYPE 0x12
+#define COLUMN_ROWS 4
+static uint64_t column_rows[COLUMN_ROWS * RNT_COLUMN_PAGE_WORDS + 3] = {
+    1, 4, 2, 0, 5, 2, 1, 1, 5, 2, 1, 0, sizeof part, 0, 0, 0, 1, 4, 2,
+};
+static const uint64_t column_elements[] = {0x1234, 0xABCD, 0x5678, 0x5678};
+#define COLUMN_ELEMENTS (sizeof column_elements / sizeof *column_elements)
+
+/* The words of a column call; what it does not write stays. */
+#define WORD_OLD UINT64_C(0x0909090909090909)
+static uint64_t column_words[RNT_MOST_COLUMN_PAGES + 8];
+#define COLUMN_WORDS (sizeof column_words / sizeof *column_words)
+
+/* What is due of a column call, for results of any length: the answer, the result and the first words; the others stay. */
+static void decoded(const char *name, uint32_t type, const uint64_t *rows, size_t row_words, const uint8_t *file, size_t length, size_t room,
+                    uint32_t answer, uint64_t index, const uint64_t *elements, size_t count) {
+    uint64_t result[3];
+    for (size_t words = 0; words <= 3; words++) {
+        result[0] = result[1] = result[2] = 9;
+        for (size_t i = 0; i < COLUMN_WORDS; i++) column_words[i] = WORD_OLD;
+        same(name, rnt_decode_column(type, rows, row_words, file, length, room ? column_words : NULL, room, words ? result : NULL, words),
+             words == 0 ? RNT_RESULT_TOO_SHORT : answer);
+        same("result of a column", result[0], words == 0 ? 9 : index);
+        same("words behind the result of a column", result[1] + result[2], 18);
+        size_t used = words == 0 ? 0 : count, kept_words = 0;
+        for (size_t i = 0; i < used; i++) same("an element of a column", column_words[i], elements[i]);
+        for (size_t i = used; i < COLUMN_WORDS; i++) kept_words += column_words[i] == WORD_OLD;
+        same("words that no page has", kept_words, COLUMN_WORDS - used);
+    }
+}
+
+/* The column with another number in its table, or another type: the answer, and the pages before the refused one. */
+static void column_refused(const char *name, uint32_t type, uint64_t *number, uint64_t wrong, uint32_t answer, uint64_t index) {
+    static const size_t before[] = {0, 2, 3, 4};
+    uint64_t old = *number;
+    *number = wrong;
+    decoded(name, type, column_rows, sizeof column_rows / 8, part, sizeof part, COLUMN_ELEMENTS, answer, index, column_elements, before[index]);
+    decoded(name, type, column_rows, sizeof column_rows / 8, part, sizeof part, COLUMN_WORDS, answer, index, column_elements, before[index]);
+    *number = old;
+}
+
+static void no_columns(void) {
+    static const uint32_t types[] = {0, 3, 6, COLUMN_TYPE, 29, 0x10012, UINT32_MAX};
+    for (size_t i = 0; i < sizeof types / sizeof *types; i++) {
+        decoded("a column of no pages", types[i], NULL, 0, NULL, 0, 0, 0, 0, NULL, 0);
+        decoded("a column of no pages, and words", types[i], NULL, 0, part, sizeof part, 5, 0, 0, NULL, 0);
+        decoded("a column of three words", types[i], column_rows, 3, part, sizeof part, 5, 0, 0, NULL, 0);
+    }
+    const uint64_t nowhere[RNT_COLUMN_PAGE_WORDS] = {0}, behind[RNT_COLUMN_PAGE_WORDS] = {1};
+    decoded("a page of nothing in no file part", COLUMN_TYPE, nowhere, 4, NULL, 0, 0, 0, 1, NULL, 0);
+    decoded("a page of nothing behind no file part", COLUMN_TYPE, behind, 4, NULL, 0, 0, 1024 + 18, 0, NULL, 0);
+    decoded("a page in no file part", COLUMN_TYPE, column_rows, 4, NULL, 0, 5, 1024 + 18, 0, NULL, 0);
+    decoded("a page and no words", COLUMN_TYPE, column_rows, 4, part, sizeof part, 0, 1024 + 20, 0, NULL, 0);
+}
+
+static void full_columns(void) {
+    static uint64_t rows[(RNT_MOST_COLUMN_PAGES + 1) * RNT_COLUMN_PAGE_WORDS], elements[RNT_MOST_COLUMN_PAGES];
+    for (size_t i = 0; i <= RNT_MOST_COLUMN_PAGES; i++) {
+        rows[4 * i] = 1 + i % 4;
+        rows[4 * i + 1] = rows[4 * i + 2] = 1;
+        if (i < RNT_MOST_COLUMN_PAGES) elements[i] = part[1 + i % 4];
+    }
+    size_t most = 4 * RNT_MOST_COLUMN_PAGES, room = RNT_MOST_COLUMN_PAGES;
+    decoded("255 pages", 4, rows, most - 4, part, sizeof part, COLUMN_WORDS, 0, room - 1, elements, room - 1);
+    decoded("256 pages", 4, rows, most, part, sizeof part, room, 0, room, elements, room);
+    decoded("256 pages and words left over", 4, rows, most + 3, part, sizeof part, COLUMN_WORDS, 0, room, elements, room);
+    decoded("256 pages, a word too few", 4, rows, most, part, sizeof part, room - 1, 1024 + 20, room - 1, elements, room - 1);
+    decoded("257 pages", 4, rows, most + 4, part, sizeof part, COLUMN_WORDS, 1024 + 10, RNT_MOST_COLUMN_PAGES, NULL, 0);
+    decoded("257 pages of no type", 3, rows, most + 4, NULL, 0, 0, 1024 + 10, RNT_MOST_COLUMN_PAGES, NULL, 0);
+    rows[most - 4] = sizeof part;
+    decoded("256 pages, the last outside", 4, rows, most, part, sizeof part, room, 1024 + 18, room - 1, elements, room - 1);
+}
+
+static void refused_columns(void) {
+    static const uint32_t types[] = {0, 3, 29, 0xFFFF, 0x10012, 0x80000012, UINT32_MAX};
+    uint64_t *rows = column_rows;
+    for (size_t i = 0; i < sizeof types / sizeof *types; i++) {
+        column_refused("a column of no type", types[i], rows, 1, 1024 + 23, 0);
+        column_refused("no type before the elements", types[i], rows + 2, 131073, 1024 + 23, 0);
+        column_refused("no type before the range", types[i], rows, 100, 1024 + 23, 0);
+    }
+    column_refused("too many elements", COLUMN_TYPE, rows + 6, RNT_MOST_ELEMENTS + 1, 1024 + 10, 1);
+    column_refused("elements of 64 bits", COLUMN_TYPE, rows + 14, UINT64_MAX, 1024 + 10, 3);
+    column_refused("as many elements as there may be", COLUMN_TYPE, rows + 6, RNT_MOST_ELEMENTS, 1024 + 21, 1);
+    column_refused("check bytes behind the part", COLUMN_TYPE, rows + 4, 7, 1024 + 18, 1);
+    column_refused("a page behind the part", COLUMN_TYPE, rows + 8, 11, 1024 + 18, 2);
+    column_refused("an empty page behind the part", COLUMN_TYPE, rows + 12, sizeof part + 1, 1024 + 18, 3);
+    column_refused("an offset that wraps", COLUMN_TYPE, rows + 8, UINT64_MAX, 1024 + 18, 2);
+    column_refused("check bytes that wrap", COLUMN_TYPE, rows + 4, UINT64_MAX - 5, 1024 + 18, 1);
+    column_refused("a size that wraps", COLUMN_TYPE, rows + 9, UINT64_MAX - 4, 1024 + 18, 2);
+    column_refused("a size of 33 bits", COLUMN_TYPE, rows + 9, (UINT64_C(1) << 32) + 2, 1024 + 18, 2);
+    column_refused("a longer page", COLUMN_TYPE, rows + 9, 3, 1024 + 21, 2);
+    column_refused("an element more", COLUMN_TYPE, rows + 2, 3, 1024 + 21, 0);
+    column_refused("no element", COLUMN_TYPE, rows + 6, 0, 1024 + 21, 1);
+    column_refused("a page without its checksum", COLUMN_TYPE, rows + 3, 1, 1024 + 22, 0);
+    part[7] ^= 1;
+    column_refused("another checksum", COLUMN_TYPE, rows, rows[0], 1024 + 22, 1);
+    part[7] ^= 1;
+    for (size_t room = 0; room < COLUMN_ELEMENTS; room++) {
+        uint64_t index = room < 2 ? 0 : room - 1;
+        decoded("too few words", COLUMN_TYPE, rows, sizeof column_rows / 8, part, sizeof part, room, 1024 + 20, index, column_elements, index ? room : 0);
+    }
+    const uint64_t bits[] = {1, 1, 6, 0, 2, 1, 6, 0}, elements[] = {0, 0, 1, 0, 1, 1};
+    decoded("unused bits", 6, bits, 8, part, sizeof part, 20, 1024 + 24, 1, elements, 6);
+}
+
+static void decoded_columns(void) {
+    uint32_t sum = rnt_crc32(part + 5, 2);
+    for (int i = 0; i < 4; i++) part[7 + i] = (uint8_t)(sum >> 8 * i);
+    const uint64_t checksums[] = {1, 2, UINT64_C(1) << 32, UINT64_MAX};
+    for (size_t i = 0; i < sizeof checksums / sizeof *checksums; i++) {
+        column_rows[7] = checksums[i];
+        for (size_t room = COLUMN_ELEMENTS; room <= COLUMN_ELEMENTS + 2; room++)
+            decoded("a column", COLUMN_TYPE, column_rows, sizeof column_rows / 8, part, sizeof part, room, 0, COLUMN_ROWS, column_elements, COLUMN_ELEMENTS);
+    }
+    no_columns();
+    full_columns();
+    refused_columns();
+}
+
 int main(void) {
     same("checksum of nothing", rnt_crc32(NULL, 0), 0);
     same("UTF-8 of nothing", rnt_is_utf8(NULL, 0), 1);
@@ -532,6 +659,7 @@ int main(void) {
     writers();
     listings();
     pages();
+    decoded_columns();
     constants();
     printf("%d passed, %d failed\n", passed, failed);
     return failed != 0;

@@ -1,7 +1,8 @@
 //! The C calls with slices for pointers and lengths.
 
-use crate::refusal::Refusal;
-use crate::rows::{text, Alias, Cluster, Column, Field, Link, Page, Table};
+use crate::most;
+use crate::refusal::{ColumnRefusal, Refusal};
+use crate::rows::{text, Alias, Cluster, Column, ColumnPage, Field, Link, Page, Table};
 
 mod c {
     extern "C" {
@@ -116,6 +117,17 @@ mod c {
             words: *mut u64,
             word_count: usize,
             start: u64,
+        ) -> u32;
+        pub fn rnt_decode_column(
+            column_type: u32,
+            pages: *const u64,
+            page_words: usize,
+            file: *const u8,
+            file_length: usize,
+            words: *mut u64,
+            word_count: usize,
+            result: *mut u64,
+            result_words: usize,
         ) -> u32;
         pub fn rnt_encode_page(
             column_type: u32,
@@ -542,6 +554,70 @@ pub fn decode_page<'a>(
         )
     })?;
     Ok(&mut words[start..][..elements])
+}
+
+/// Decodes the pages of a column, at most 256, out of a part of a file into the
+/// lent words: from the first word on, page after page without gaps. Gives the
+/// words that they fill.
+///
+/// The answer and the words are those of [`decode_page`] for one page after the
+/// other, up to the first that is refused. A page that is not inside `file`, with
+/// its check bytes if it has any, is
+/// [`Reason::OutsideFile`](crate::Reason::OutsideFile). More than 256 pages are
+/// refused before anything else, with the index 256; no pages are accepted,
+/// whatever the type is.
+///
+/// A refusal leaves earlier work, as no other call does: the pages before the
+/// refused one stay decoded in `words`, and all other words are as they were.
+///
+/// ```
+/// use rntuple_check::{decode_column, ColumnPage, Reason};
+///
+/// // Two pages of 16-bit elements, split; the one that comes first stands behind.
+/// let file = [0x78, 0x56, 0x34, 0xCD, 0x12, 0xAB];
+/// let page = |offset, elements| ColumnPage { offset, size: 2 * elements as u64, elements, checksum: false };
+/// let mut words = [0; 4];
+/// assert_eq!(decode_column(0x12, &[page(2, 2), page(0, 1)], &file, &mut words)?, [0x1234, 0xABCD, 0x5678]);
+///
+/// // The second page ends behind the file part; the first one is there.
+/// let mut words = [0; 4];
+/// let refused = decode_column(0x12, &[page(0, 1), page(3, 2)], &file, &mut words).unwrap_err();
+/// assert_eq!((refused.refusal.reason, refused.index), (Reason::OutsideFile, 1));
+/// assert_eq!(words, [0x5678, 0, 0, 0]);
+/// # Ok::<(), rntuple_check::ColumnRefusal>(())
+/// ```
+pub fn decode_column<'a>(
+    column_type: u16,
+    pages: &[ColumnPage],
+    file: &[u8],
+    words: &'a mut [u64],
+) -> Result<&'a mut [u64], ColumnRefusal> {
+    // One row more than there may be: more of them are refused likewise.
+    let mut rows = [[0; ColumnPage::WORDS]; most::COLUMN_PAGES + 1];
+    let count = pages.len().min(rows.len());
+    for (row, page) in rows.iter_mut().zip(pages) {
+        *row = page.words();
+    }
+    let table = rows[..count].as_flattened();
+    let mut result = [0; 1];
+    // SAFETY: see above.
+    let answer = unsafe {
+        c::rnt_decode_column(
+            column_type.into(),
+            table.as_ptr(),
+            table.len(),
+            file.as_ptr(),
+            file.len(),
+            words.as_mut_ptr(),
+            words.len(),
+            result.as_mut_ptr(),
+            result.len(),
+        )
+    };
+    let index = result[0] as usize;
+    accepted(answer).map_err(|refusal| ColumnRefusal { refusal, index })?;
+    let elements = pages.iter().map(|page| page.elements).sum();
+    Ok(&mut words[..elements])
 }
 
 /// Encodes so many elements, from `start` on, into the first bytes of the lent

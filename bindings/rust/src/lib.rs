@@ -73,17 +73,18 @@ mod room;
 mod rows;
 
 pub use calls::{
-    crc32, decode_page, encode_page, is_utf8, list_fields, parent_moves, read_footer, read_header, read_page_list,
-    read_paired_page_list, write_footer, write_header, write_page_list, Footer, Header, HeaderTexts, PageList, Text,
+    crc32, decode_column, decode_page, encode_page, is_utf8, list_fields, parent_moves, read_footer, read_header,
+    read_page_list, read_paired_page_list, write_footer, write_header, write_page_list, Footer, Header, HeaderTexts,
+    PageList, Text,
 };
-pub use refusal::{Envelope, Reason, Refusal};
+pub use refusal::{ColumnRefusal, Envelope, Reason, Refusal};
 pub use room::{
     decode, encode, new_footer, new_header, new_listing, new_page_list, FooterRoom, HeaderRoom, PageListRoom,
 };
-pub use rows::{Alias, Cluster, Column, ColumnNumber, Field, FieldNumber, Link, Page, Row, Table};
+pub use rows::{Alias, Cluster, Column, ColumnNumber, ColumnPage, Field, FieldNumber, Link, Page, Row, Table};
 
-/// The most bytes and rows that an accepted envelope can have, and the most
-/// elements of one page call.
+/// The most bytes and rows that an accepted envelope can have, the most elements
+/// of one page, and the most pages of one column call.
 pub mod most {
     pub const BYTES: usize = 1_048_576;
     pub const FIELDS: usize = 512;
@@ -93,4 +94,5 @@ pub mod most {
     pub const LINKS: usize = 64;
     pub const PAGES: usize = 16_384;
     pub const ELEMENTS: usize = 131_072;
+    pub const COLUMN_PAGES: usize = 256;
 }

@@ -92,7 +92,8 @@ impl Reason {
 }
 
 /// A refusal: what is refused, and the first rule that it breaks. No memory
-/// was written.
+/// was written, but for the pages of a column before the refused one: see
+/// [`ColumnRefusal`].
 #[derive(Clone, Copy, Debug, PartialEq, Eq, Hash)]
 pub struct Refusal {
     pub envelope: Envelope,
@@ -126,3 +127,24 @@ impl fmt::Display for Refusal {
 }
 
 impl Error for Refusal {}
+
+/// A refused page of a column. The pages before it stay decoded.
+#[derive(Clone, Copy, Debug, PartialEq, Eq, Hash)]
+pub struct ColumnRefusal {
+    pub refusal: Refusal,
+    /// The index of that page; 256 where there are more pages than that, of which
+    /// none is decoded.
+    pub index: usize,
+}
+
+impl fmt::Display for ColumnRefusal {
+    fn fmt(&self, f: &mut fmt::Formatter) -> fmt::Result {
+        write!(f, "page {} of the column: {}", self.index, self.refusal)
+    }
+}
+
+impl Error for ColumnRefusal {
+    fn source(&self) -> Option<&(dyn Error + 'static)> {
+        Some(&self.refusal)
+    }
+}

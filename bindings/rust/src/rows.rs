@@ -90,6 +90,30 @@ pub struct Page {
     pub offset: u64,
 }
 
+/// A page of a column that is to be decoded, in a part of a file.
+#[derive(Clone, Copy, Debug, PartialEq, Eq)]
+pub struct ColumnPage {
+    /// From the first byte of that part on.
+    pub offset: u64,
+    /// Without its checksum.
+    pub size: u64,
+    pub elements: usize,
+    /// Four bytes of checksum follow the page, inside the part like the page.
+    pub checksum: bool,
+}
+
+impl From<Page> for ColumnPage {
+    /// The page where the part is the whole file.
+    fn from(page: Page) -> Self {
+        ColumnPage {
+            offset: page.offset,
+            size: page.size,
+            elements: page.elements,
+            checksum: page.checksum,
+        }
+    }
+}
+
 /// Puts a string behind those that are there; gives its place and length.
 pub(crate) fn add(strings: &mut Vec<u8>, text: &str) -> Text {
     let place = strings.len() as u64;
@@ -164,6 +188,14 @@ impl Page {
             self.size,
             self.offset,
         ]
+    }
+}
+
+impl ColumnPage {
+    pub(crate) const WORDS: usize = 4;
+
+    pub(crate) fn words(&self) -> [u64; Self::WORDS] {
+        [self.offset, self.size, self.elements as u64, self.checksum.into()]
     }
 }
 

@@ -122,6 +122,17 @@ mod exported {
             word_count: usize,
             start: u64,
         ) -> u32;
+        pub fn rnt_decode_column(
+            column_type: u32,
+            pages: *const u64,
+            page_words: usize,
+            file: *const u8,
+            file_length: usize,
+            words: *mut u64,
+            word_count: usize,
+            result: *mut u64,
+            result_words: usize,
+        ) -> u32;
         pub fn rnt_encode_page(
             column_type: u32,
             elements: u64,
@@ -380,6 +391,25 @@ mod exported {
             from_raw_parts_mut(words, word_count),
             start,
         )
+    }
+
+    #[allow(clippy::too_many_arguments)]
+    pub unsafe fn rnt_decode_column(
+        column_type: u32,
+        pages: *const u64,
+        page_words: usize,
+        file: *const u8,
+        file_length: usize,
+        words: *mut u64,
+        word_count: usize,
+        result: *mut u64,
+        result_words: usize,
+    ) -> u32 {
+        answer(from_raw_parts_mut(result, result_words), || {
+            let pages = from_raw_parts(pages, page_words);
+            let file = from_raw_parts(file, file_length);
+            reference::decode_column(column_type, pages, file, from_raw_parts_mut(words, word_count))
+        })
     }
 
     #[allow(clippy::too_many_arguments)]
@@ -653,6 +683,23 @@ pub fn decode_page(column_type: u32, elements: u64, checksum: u32, page: &[u8], 
             words.as_mut_ptr(),
             words.len(),
             start,
+        )
+    }
+}
+
+pub fn decode_column(column_type: u32, pages: &[u64], file: &[u8], words: &mut [u64], result: &mut [u64]) -> u32 {
+    // SAFETY: as above.
+    unsafe {
+        exported::rnt_decode_column(
+            column_type,
+            pages.as_ptr(),
+            pages.len(),
+            file.as_ptr(),
+            file.len(),
+            words.as_mut_ptr(),
+            words.len(),
+            result.as_mut_ptr(),
+            result.len(),
         )
     }
 }

@@ -1,6 +1,7 @@
 //! Runs cases on the library and on the reference and compares everything that
 //! either of them may write.
 
+mod columns;
 pub mod listing;
 mod writing;
 
@@ -140,11 +141,14 @@ enum Note {
     ReadersNumber,
     LinesBack,
     Dark,
+    SeveralPages,
+    LaterPage,
+    SingleCalls,
     Short,
 }
 
 /// The notes as a report has them.
-pub const NOTES: [&str; 12] = [
+pub const NOTES: [&str; 15] = [
     "of them also from a newer writer",
     "of them with checksums of page lists",
     "of them with the row's checksum",
@@ -156,6 +160,9 @@ pub const NOTES: [&str; 12] = [
     "refused by the reader's number for the same bytes",
     "of them with the fields told back by their lines",
     "of them with a dark field",
+    "of them with several pages",
+    "refused behind pages that stay decoded",
+    "made again by single calls",
     "with too short a result",
 ];
 
@@ -225,6 +232,11 @@ pub type MovesCall = fn(&[u8], &mut [u64]) -> u32;
 /// A call that lists fields: a header, the lent bytes and the lent result.
 pub type ListCall = fn(&[u8], &mut [u8], &mut [u64]) -> u32;
 
+/// A call that decodes a column: its type, the table of its pages, the file part,
+/// the lent words and the lent result. The table and the file part are lent so
+/// that a wrong call can change them, to see that it is found.
+pub type ColumnCall = fn(u32, &mut [u64], &mut [u8], &mut [u64], &mut [u64]) -> u32;
+
 /// Calls that write: what they are lent, the bytes and the result.
 pub type WriteHeaderCall = Box<dyn Fn(HeaderTables, &mut [u8], &mut [u64]) -> u32>;
 pub type WriteFooterCall = Box<dyn Fn(FooterTables, &mut [u8], &mut [u64]) -> u32>;
@@ -236,6 +248,7 @@ pub struct Comparer {
     /// The library's, or one that is wrong, to see that it is found.
     pub parent_moves: MovesCall,
     pub list_fields: ListCall,
+    pub decode_column: ColumnCall,
     pub write_header: WriteHeaderCall,
     pub write_footer: WriteFooterCall,
     pub write_page_list: WritePageListCall,
@@ -254,6 +267,9 @@ impl Comparer {
             tally: Tally::new(),
             parent_moves: calls::parent_moves,
             list_fields: calls::list_fields,
+            decode_column: |column_type, pages, file, words, result| {
+                calls::decode_column(column_type, pages, file, words, result)
+            },
             write_header: Box::new(calls::write_header),
             write_footer: Box::new(calls::write_footer),
             write_page_list: Box::new(calls::write_page_list),
@@ -334,6 +350,10 @@ impl Comparer {
                     );
                     error + &numbers + &dump("page", &case.page)
                 })
+            }
+            Kind::Column => {
+                let case = self.generator.column_case();
+                self.column(&case).map_err(|error| error + &columns::dump_column(&case))
             }
             Kind::Encode => {
                 let case = self.generator.encode_case();

@@ -1,6 +1,7 @@
 //! Seeded cases. A case depends on the seed, its kind and its number alone, so
 //! that each can be made again by itself.
 
+pub mod columns;
 pub mod damage;
 pub mod edges;
 pub mod envelopes;
@@ -16,7 +17,7 @@ pub mod writing;
 use crate::writer::Writer;
 use random::Random;
 
-/// The thirteen kinds of cases.
+/// The fourteen kinds of cases.
 #[derive(Clone, Copy, Debug, PartialEq, Eq)]
 pub enum Kind {
     Header,
@@ -32,9 +33,10 @@ pub enum Kind {
     WriteFooter,
     WritePageList,
     List,
+    Column,
 }
 
-pub const KINDS: [Kind; 13] = [
+pub const KINDS: [Kind; 14] = [
     Kind::Header,
     Kind::Footer,
     Kind::PageList,
@@ -48,6 +50,7 @@ pub const KINDS: [Kind; 13] = [
     Kind::WriteFooter,
     Kind::WritePageList,
     Kind::List,
+    Kind::Column,
 ];
 
 impl Kind {
@@ -66,6 +69,7 @@ impl Kind {
             Kind::WriteFooter => "write-footer",
             Kind::WritePageList => "write-page-list",
             Kind::List => "list",
+            Kind::Column => "column",
         }
     }
 }

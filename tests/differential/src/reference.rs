@@ -1,6 +1,7 @@
 //! An independent implementation of the rules, written from their text alone.
 //! Each call returns the exported call's answer and result words.
 
+pub mod columns;
 pub mod crc;
 pub mod envelope;
 pub mod footer;
@@ -182,6 +183,15 @@ pub fn decode_page(column_type: u32, elements: u64, checksum: bool, page: &[u8],
     match pages::decode(column_type, elements, checksum, page, words, start) {
         Ok(()) => ACCEPTED,
         Err(number) => refusal(PAGE, number),
+    }
+}
+
+/// Decodes the pages of a column into `words`, from its first word on; gives
+/// the index of the refused page, else the number of pages.
+pub fn decode_column(column_type: u32, pages: &[u64], file: &[u8], words: &mut [u64]) -> (u32, [u64; 1]) {
+    match columns::decode(column_type, pages, file, words) {
+        Ok(count) => (ACCEPTED, [count as u64]),
+        Err((number, index)) => (refusal(PAGE, number), [index as u64]),
     }
 }
 

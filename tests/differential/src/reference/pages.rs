@@ -65,6 +65,11 @@ fn measure(column_type: u32, elements: u64) -> Result<(u16, usize, usize), Numbe
     Ok((bits, elements, (elements * usize::from(bits)).div_ceil(8)))
 }
 
+/// The checks that need no byte of the page.
+pub fn known(column_type: u32, elements: u64) -> Result<(), Number> {
+    measure(column_type, elements).map(drop)
+}
+
 /// The part of a slice of `length` that a page call uses.
 fn part(start: u64, elements: usize, length: usize) -> Result<std::ops::Range<usize>, Number> {
     match start.checked_add(elements as u64) {
