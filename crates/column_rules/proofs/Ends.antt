@@ -19,7 +19,7 @@ use Rattle.column_rules.specs.Statements.{inColumn, RefusedAt, pageEleme
 use Rattle.column_rules.proofs.TurnLaws.{refused-is, page-accepted, turn-accepted, turn-refused, one-after-other}
 
 -- a page that is refused by one of some numbers ends the pages with it
-refused-at : (ks : List ℕ) (o : Outcome) (i : ℕ) (words : List ℕ) → RefusedBy ks o → RefusedAt ks i (record { outcome = refuseAt (o .number) i; words = words })
+pub refused-at : (ks : List ℕ) (o : Outcome) (i : ℕ) (words : List ℕ) → RefusedBy ks o → RefusedAt ks i (record { outcome = refuseAt (o .number) i; words = words })
 refused-at (k ∷ ks) o i words (inl e) = inl (ap (λ (x : Outcome). refuseAt (x .number) i) e)
 refused-at (k ∷ ks) o i words (inr r) = inr (refused-at ks o i words r)
 
