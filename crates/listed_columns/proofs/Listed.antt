@@ -32,7 +32,7 @@ use Rattle.column_rules.specs.Statements.{pageElements, elementsOf}
 use Rattle.column_rules.proofs.TurnLaws.{is-single, page-accepted, turn-accepted, turn-refused}
 use Rattle.column_rules.proofs.Ends.{refused-at}
 use Rattle.column_rules.proofs.Statements.{few-pages}
-use Rattle.listed_columns.specs.Listed.{BitsDue, ColumnBitsDue, PageSizesDue, Listed, typeIn, ListedCall, AcceptsOr, ListedColumns, FewElements, OnlyBytesLeft, Unchecked, NothingLeft}
+use Rattle.listed_columns.specs.Listed.{BitsDue, ColumnBitsDue, PageSizesDue, Listed, typeIn, ListedCall, AcceptsOr, inListed, ListedColumns, FewElements, OnlyBytesLeft, Unchecked, NothingLeft}
 use Rattle.listed_columns.proofs.Due.{column-bits-due, page-sizes-due}
 
 -- a page of type t that is in the file part and has the size of its elements
@@ -150,10 +150,10 @@ each-both P Q (p ∷ ps) a b = ((a .0, b .0), each-both P Q ps (a .1) (b .1))
 pub listed-columns : ListedColumns
 unfolding ListedColumns
 listed-columns t file table old k =
-    whole (10 ∷ 22 ∷ 24 ∷ 20 ∷ []) t file table old (k .few)
-    (pages-or (10 ∷ 22 ∷ 24 ∷ 20 ∷ []) t file (length old) (λ _. Unit {0}) (λ a b u. tt) (columnPages table) (each-weaken page (columnPages table) (in-place t file table k)) 0 tt)
+    whole inListed t file table old (k .few)
+    (pages-or inListed t file (length old) (λ _. Unit {0}) (λ a b u. tt) (columnPages table) (each-weaken page (columnPages table) (in-place t file table k)) 0 tt)
   where
-    page : (p : ColumnPage) → InPlace t file p → (start : ℕ) → Unit {0} → PageOr (10 ∷ 22 ∷ 24 ∷ 20 ∷ []) t file (length old) p start
+    page : (p : ColumnPage) → InPlace t file p → (start : ℕ) → Unit {0} → PageOr inListed t file (length old) p start
     page p h start u =
         rw (tests-left t file (k .isReadable) p h old start)
         (unless-by (leb (p .elements) mostElements) 10 (22 ∷ 24 ∷ 20 ∷ []) (accept (p .elements)) _

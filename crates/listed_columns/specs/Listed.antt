@@ -87,11 +87,15 @@ pub record ListedCall (t : ℕ) (file table : List ℕ) : Type 0 where
 abbrev pub AcceptsOr : List ℕ → ℕ → Decoding → Type 0
 AcceptsOr ks pages d = (d .outcome ≡ acceptAll pages) ⊎ ((indexOf d < pages) × RefusedAt ks (indexOf d) d)
 
+-- the numbers that are left: too many elements, a checksum that is not right, unused bits that are set, no room
+abbrev pub inListed : List ℕ
+inListed = 10 ∷ 22 ∷ 24 ∷ 20 ∷ []
+
 -- no page is outside the file, none has another length than its elements have, and the type is read: 18, 21 and 23 are not given
 unfoldable pub ListedColumns : Type 0
 ListedColumns =
     (t : ℕ) (file table old : List ℕ) → ListedCall t file table
-    → AcceptsOr (10 ∷ 22 ∷ 24 ∷ 20 ∷ []) (rowsIn columnPageWidth table) (wholeColumn t file table old)
+    → AcceptsOr inListed (rowsIn columnPageWidth table) (wholeColumn t file table old)
 
 -- a page that one call can take
 abbrev pub FewElements : ColumnPage → Type 0
