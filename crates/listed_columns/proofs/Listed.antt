@@ -32,7 +32,7 @@ use Rattle.column_rules.specs.Statements.{pageElements, elementsOf}
 use Rattle.column_rules.proofs.TurnLaws.{is-single, page-accepted, turn-accepted, turn-refused}
 use Rattle.column_rules.proofs.Ends.{refused-at}
 use Rattle.column_rules.proofs.Statements.{few-pages}
-use Rattle.listed_columns.specs.Listed.{BitsDue, ColumnBitsDue, PageSizesDue, Listed, typeIn, ListedCall, AcceptsOr, inListed, ListedColumns, FewElements, OnlyBytesLeft, Unchecked, NothingLeft}
+use Rattle.listed_columns.specs.Listed.{BitsDue, ColumnBitsDue, PageSizesDue, Listed, typeIn, ListedCall, AcceptsOr, inListed, ListedColumns, Roomy, OnlyBytesLeft, NothingLeft}
 use Rattle.listed_columns.proofs.Due.{column-bits-due, page-sizes-due}
 
 -- a page of type t that is in the file part and has the size of its elements
@@ -162,36 +162,40 @@ listed-columns t file table old k =
         (unless-by (leb (start + p .elements) (length old)) 20 [] (accept (p .elements)) (accept (p .elements)) (inl refl)))))
 
 -- with few elements in each page and room for all
-module _ (t : ℕ) (file table old : List ℕ) (k : ListedCall t file table) (few : Each FewElements (columnPages table)) (room : elementsOf (columnPages table) ≤ length old) where
-  bytes-left : (p : ColumnPage) → InPlace t file p → FewElements p → (start : ℕ) → start + p .elements ≤ length old
+module _ (t : ℕ) (file table old : List ℕ) (k : ListedCall t file table) (r : Roomy (columnPages table) (length old)) where
+  abbrev Few : ColumnPage → Type 0
+  Few p = p .elements ≤ mostElements
+
+  bytes-left : (p : ColumnPage) → InPlace t file p → Few p → (start : ℕ) → start + p .elements ≤ length old
       → pageOutcome t file p (length old) start
       ≡ unless (checksumRight (p .checksum) (sizeOf t (p .elements)) (pageBytes file p)) 22 (unless (unusedClear t (p .elements) (pageBytes file p)) 24 (accept (p .elements)))
-  bytes-left p h f start r =
-      tests-left t file (k .isReadable) p h old start ∙ rw (le-leb (p .elements) mostElements f, le-leb (start + p .elements) (length old) r) refl
+  bytes-left p h few start room =
+      tests-left t file (k .isReadable) p h old start ∙ rw (le-leb (p .elements) mostElements few, le-leb (start + p .elements) (length old) room) refl
 
   roomy : (ks : List ℕ) (Q : ColumnPage → Type 0) → Each Q (columnPages table)
-      → ((p : ColumnPage) → InPlace t file p → FewElements p → Q p → (start : ℕ) → start + p .elements ≤ length old → PageOr ks t file (length old) p start)
+      → ((p : ColumnPage) → InPlace t file p → Few p → Q p → (start : ℕ) → start + p .elements ≤ length old → PageOr ks t file (length old) p start)
       → AcceptsOr ks (rowsIn columnPageWidth table) (wholeColumn t file table old)
   roomy ks Q each page =
       whole ks t file table old (k .few)
       (pages-or ks t file (length old) (λ end. end ≤ length old) (λ a b h. omega arith) (columnPages table)
-      (each-weaken (λ p a. page p (a .0) (a .1 .0) (a .1 .1)) (columnPages table) (each-both (InPlace t file) (λ p. FewElements p × Q p) (columnPages table) (in-place t file table k) (each-both FewElements Q (columnPages table) few each)))
-      0 (omega (arith, room)))
+      (each-weaken (λ p a. page p (a .0) (a .1 .0) (a .1 .1)) (columnPages table)
+      (each-both (InPlace t file) (λ p. Few p × Q p) (columnPages table) (in-place t file table k) (each-both Few Q (columnPages table) (r .few) each)))
+      0 (omega (arith, r .room)))
 
 pub only-bytes-left : OnlyBytesLeft
 unfolding OnlyBytesLeft
-only-bytes-left t file table old k few room =
-    roomy t file table old k few room (22 ∷ 24 ∷ []) FewElements few λ p h f _ start r.
-    rw (bytes-left t file table old k few room p h f start r)
+only-bytes-left t file table old k r =
+    roomy t file table old k r (22 ∷ 24 ∷ []) (λ p. p .elements ≤ mostElements) (r .few) λ p h few _ start room.
+    rw (bytes-left t file table old k r p h few start room)
     (unless-by (checksumRight (p .checksum) (sizeOf t (p .elements)) (pageBytes file p)) 22 (24 ∷ []) (accept (p .elements)) _
     (unless-by (unusedClear t (p .elements) (pageBytes file p)) 24 [] (accept (p .elements)) (accept (p .elements)) (inl refl)))
 
 pub nothing-left : NothingLeft
 unfolding NothingLeft checksumRight
-nothing-left t file table old k few room unchecked other =
-    by (roomy t file table old k few room [] Unchecked unchecked λ p h f c start r.
-    inl (bytes-left t file table old k few room p h f start r ∙ rw (← clear-other t (p .elements) (pageBytes file p) other, c) refl))
+nothing-left t file table old k r unchecked other =
+    by (roomy t file table old k r [] (λ p. p .checksum ≡ false) unchecked λ p h few c start room.
+    inl (bytes-left t file table old k r p h few start room ∙ rw (← clear-other t (p .elements) (pageBytes file p) other, c) refl))
   where
     by : AcceptsOr [] (rowsIn columnPageWidth table) (wholeColumn t file table old) → wholeColumn t file table old .outcome ≡ acceptAll (rowsIn columnPageWidth table)
     by (inl e) = e
-    by (inr r) = absurd (r .1)
+    by (inr z) = absurd (z .1)

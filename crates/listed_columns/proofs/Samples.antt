@@ -134,7 +134,7 @@ samples =
       otherOrder = four-bits;
       long = many-bits;
       oneElement = λ file old long room.
-          nothing-left 1 file (0 ∷ 8 ∷ 1 ∷ 0 ∷ []) old (one-element file long) (omega arith, tt) (omega (arith, room)) (refl, tt) (λ e. omega arith);
+          nothing-left 1 file (0 ∷ 8 ∷ 1 ∷ 0 ∷ []) old (one-element file long) (record { few = (omega arith, tt); room = omega (arith, room) }) (refl, tt) (λ e. omega arith);
     }
 
 -- one byte of the checked page is another

@@ -97,26 +97,20 @@ ListedColumns =
     (t : ℕ) (file table old : List ℕ) → ListedCall t file table
     → AcceptsOr inListed (rowsIn columnPageWidth table) (wholeColumn t file table old)
 
--- a page that one call can take
-abbrev pub FewElements : ColumnPage → Type 0
-FewElements p = p .elements ≤ mostElements
+-- each page has no more elements than a call takes, and so many lent words have room for all
+pub record Roomy (ps : List ColumnPage) (words : ℕ) : Type 0 where
+  pub few : Each (λ p. p .elements ≤ mostElements) ps
+  pub room : elementsOf ps ≤ words
 
--- where each page has few elements and the lent words have room for all, only the bytes of a page are left to refuse: its checksum, and the unused
--- bits of a Bit page
+-- then only the bytes of a page are left to refuse: its checksum, and the unused bits of a Bit page
 unfoldable pub OnlyBytesLeft : Type 0
 OnlyBytesLeft =
-    (t : ℕ) (file table old : List ℕ) → ListedCall t file table
-    → Each FewElements (columnPages table) → elementsOf (columnPages table) ≤ length old
+    (t : ℕ) (file table old : List ℕ) → ListedCall t file table → Roomy (columnPages table) (length old)
     → AcceptsOr (22 ∷ 24 ∷ []) (rowsIn columnPageWidth table) (wholeColumn t file table old)
 
--- a page with no checksum behind it
-abbrev pub Unchecked : ColumnPage → Type 0
-Unchecked p = p .checksum ≡ false
-
--- and where there is neither, nothing is left: the call accepts whatever the bytes are
+-- and where the pages have neither, nothing is left: the call accepts whatever their bytes are
 unfoldable pub NothingLeft : Type 0
 NothingLeft =
-    (t : ℕ) (file table old : List ℕ) → ListedCall t file table
-    → Each FewElements (columnPages table) → elementsOf (columnPages table) ≤ length old
-    → Each Unchecked (columnPages table) → (t ≡ 6 → ⊥)
+    (t : ℕ) (file table old : List ℕ) → ListedCall t file table → Roomy (columnPages table) (length old)
+    → Each (λ p. p .checksum ≡ false) (columnPages table) → (t ≡ 6 → ⊥)
     → wholeColumn t file table old .outcome ≡ acceptAll (rowsIn columnPageWidth table)
