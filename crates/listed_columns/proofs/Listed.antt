@@ -2,10 +2,9 @@
 -- Assumes nothing.
 use Prim.Native.Nat.{ℕ, zero, suc, _+_, _≤_}
 use mathlib.Core.List.{List, [], _∷_, map}
-use mathlib.Core.Logic.{_⊎_, inl, inr}
-use mathlib.Core.Bool.{Bool, true, false}
-use mathlib.Core.Path.{_≡_, refl, sym, ap, _∙_, subst}
-use native.Mathlib.Nat.{add-zero, zero-add}
+use mathlib.Core.Logic.{inl, inr}
+use mathlib.Core.Bool.{true, false}
+use mathlib.Core.Path.{_≡_, refl, ap, _∙_}
 use native.Mathlib.Omega.{arith}
 use borrow.Author.Tests.{le-leb, eq-eqb}
 use lib.Dec.{leb}
@@ -13,26 +12,23 @@ use lib.ListN.{length, getD, drop, length-drop}
 use lib.Seq.{length-take-le}
 use Rattle.numbers.specs.Lists.{Each}
 use Rattle.numbers.specs.Numbers.{trailer, bytesFor}
-use Rattle.numbers.proofs.Choice.{both-true, clash}
+use Rattle.numbers.proofs.Choice.{both-true}
 use Rattle.numbers.proofs.Lists.{each-weaken}
-use Rattle.outcome.specs.Outcome.{isAccepted}
 use Rattle.column_type.specs.Types.{known, widthOf}
 use Rattle.rows.specs.Tables.{rowsIn, pageRow}
-use Rattle.rows.proofs.FirstRows.{rows-length}
 use Rattle.rows.specs.declared.ColumnRow.{ColumnRow}
 use Rattle.column_pages.specs.ColumnPages.{bitsOf}
 use Rattle.tree.proofs.Ranges.{pages-inside-file}
 use Rattle.tree.specs.Ranges.{PagesInsideFile}
-use Rattle.page_rules.specs.Page.{accept, unless, RefusedBy, readable, mostElements, sizeOf, checksumRight, unusedClear, decodeOutcome}
+use Rattle.page_rules.specs.Page.{accept, unless, readable, mostElements, sizeOf, checksumRight, unusedClear, decodeOutcome}
 use Rattle.page_rules.proofs.Decoding.{unless-by, clear-other}
-use Rattle.page_rules.proofs.Laid.{length-left}
 use Rattle.column_rules.specs.declared.ColumnPage.{ColumnPage}
-use Rattle.column_rules.specs.Column.{acceptAll, columnPageWidth, columnPage, columnPages, mostColumnPages, inside, pageBytes, pageOutcome, pageDecoded, inTurn, wholeColumn}
-use Rattle.column_rules.specs.Statements.{pageElements, elementsOf}
-use Rattle.column_rules.proofs.TurnLaws.{is-single, page-accepted, turn-accepted, turn-refused}
-use Rattle.column_rules.proofs.Ends.{refused-at}
-use Rattle.column_rules.proofs.Statements.{few-pages}
-use Rattle.listed_columns.specs.Listed.{BitsDue, ColumnBitsDue, PageSizesDue, Listed, typeIn, ListedCall, AcceptsOr, inListed, ListedColumns, Roomy, OnlyBytesLeft, NothingLeft}
+use Rattle.column_rules.specs.Column.{acceptAll, columnPageWidth, columnPages, inside, pageBytes, pageOutcome, wholeColumn}
+use Rattle.column_rules.specs.Statements.{AcceptsOr}
+use Rattle.column_rules.proofs.TurnLaws.{is-single}
+use Rattle.column_rules.proofs.Numbers.{PageOr, pages-or}
+use Rattle.column_rules.proofs.Statements.{whole-numbers}
+use Rattle.listed_columns.specs.Listed.{BitsDue, ColumnBitsDue, PageSizesDue, Listed, typeIn, ListedCall, inListed, ListedColumns, Roomy, OnlyBytesLeft, NothingLeft}
 use Rattle.listed_columns.proofs.Due.{column-bits-due, page-sizes-due}
 
 -- a page of type t that is in the file part and has the size of its elements
@@ -62,60 +58,6 @@ module _ (t : ℕ) (file : List ℕ) (isReadable : readable t ≡ true) (p : Col
       (accept n))))
   unfolding decodeOutcome
   tests-left = is-single t file p old start is-inside .0 ∙ rw (isReadable, eq-eqb (length (pageBytes file p)) (sizeOf t n + trailer (p .checksum)) bytes-long) refl
-
--- pages in turn
-
-module _ (ks : List ℕ) (t : ℕ) (file : List ℕ) where
-  -- a page, decoded to so many words from `start` on, is accepted or refused by one of the numbers
-  abbrev PageOr : ℕ → ColumnPage → ℕ → Type 0
-  PageOr words p start = (pageOutcome t file p words start ≡ accept (p .elements)) ⊎ RefusedBy ks (pageOutcome t file p words start)
-
-  -- so is each of some pages, each from where the one before it ended
-  abbrev PagesOr : ℕ → List ColumnPage → ℕ → Type 0
-  PagesOr words [] start = Unit {0}
-  PagesOr words (p ∷ ps) start = PageOr words p start × PagesOr words ps (start + p .elements)
-
-  -- by a fact on each page alone, which may ask that something holds of the place where the page ends
-  pages-or : (words : ℕ) (Room : ℕ → Type 0) → ((a b : ℕ) → Room (a + b) → Room a)
-      → (ps : List ColumnPage) → Each (λ p. (start : ℕ) → Room (start + p .elements) → PageOr words p start) ps
-      → (start : ℕ) → Room (start + elementsOf ps) → PagesOr words ps start
-  unfolding elementsOf
-  pages-or words Room less [] each start room = tt
-  pages-or words Room less (p ∷ ps) each start room =
-      let further : start + (p .elements + elementsOf ps) ≡ start + p .elements + elementsOf ps = omega arith in
-      let later : Room (start + p .elements + elementsOf ps) = subst Room further room in
-      (each .0 start (less (start + p .elements) (elementsOf ps) later), pages-or words Room less ps (each .1) (start + p .elements) later)
-
-  turned : (ps : List ColumnPage) (i start : ℕ) (old : List ℕ) → PagesOr (length old) ps start → AcceptsOr ks (i + length ps) (inTurn t file ps i start old)
-  unfolding inTurn
-  turned [] i start old each = inl (rw (add-zero i) refl)
-  turned (p ∷ ps) i start old each =
-      by (turned ps (suc i) (start + p .elements) (pageDecoded t file p old start)) (isAccepted (pageOutcome t file p (length old) start)) refl
-    where
-      refused : isAccepted (pageOutcome t file p (length old) start) ≡ false → PageOr (length old) p start → RefusedBy ks (pageOutcome t file p (length old) start)
-      refused e (inl a) = clash (ap isAccepted a) e
-      refused e (inr r) = r
-
-      by : (PagesOr (length (pageDecoded t file p old start)) ps (start + p .elements)
-          → AcceptsOr ks (suc i + length ps) (inTurn t file ps (suc i) (start + p .elements) (pageDecoded t file p old start)))
-          → (b : Bool) → isAccepted (pageOutcome t file p (length old) start) ≡ b → AcceptsOr ks (i + suc (length ps)) (inTurn t file (p ∷ ps) i start old)
-      by rest true e =
-          let k = page-accepted t file p old start e in
-          let long : length (pageDecoded t file p old start) ≡ length old =
-          ap length (k .leaves) ∙ length-left old (pageElements t file p) start (p .elements) (k .count) (k .room) in
-          let next : i + suc (length ps) ≡ suc i + length ps = omega arith in
-          rw (turn-accepted t file p old start ps i e, next) (rest (subst (λ (m : ℕ). PagesOr m ps (start + p .elements)) (sym long) (each .1)))
-      by rest false e =
-          rw (turn-refused t file p old start ps i e)
-          (inr (omega arith, refused-at ks (pageOutcome t file p (length old) start) i old (refused e (each .0))))
-
-  whole : (table old : List ℕ) → rowsIn columnPageWidth table ≤ mostColumnPages → PagesOr (length old) (columnPages table) 0
-      → AcceptsOr ks (rowsIn columnPageWidth table) (wholeColumn t file table old)
-  whole table old few each =
-      let rows : 0 + length (columnPages table) ≡ rowsIn columnPageWidth table =
-      zero-add (length (columnPages table)) ∙ rows-length columnPage table (rowsIn columnPageWidth table) in
-      rw (few-pages t file table old few)
-      (subst (λ (m : ℕ). AcceptsOr ks m (inTurn t file (columnPages table) 0 0 old)) rows (turned (columnPages table) 0 0 old each))
 
 -- the pages of a page list
 
@@ -150,7 +92,7 @@ each-both P Q (p ∷ ps) a b = ((a .0, b .0), each-both P Q ps (a .1) (b .1))
 pub listed-columns : ListedColumns
 unfolding ListedColumns
 listed-columns t file table old k =
-    whole inListed t file table old (k .few)
+    whole-numbers inListed t file table old (k .few)
     (pages-or inListed t file (length old) (λ _. Unit {0}) (λ a b u. tt) (columnPages table) (each-weaken page (columnPages table) (in-place t file table k)) 0 tt)
   where
     page : (p : ColumnPage) → InPlace t file p → (start : ℕ) → Unit {0} → PageOr inListed t file (length old) p start
@@ -176,7 +118,7 @@ module _ (t : ℕ) (file table old : List ℕ) (k : ListedCall t file table) (r 
       → ((p : ColumnPage) → InPlace t file p → Few p → Q p → (start : ℕ) → start + p .elements ≤ length old → PageOr ks t file (length old) p start)
       → AcceptsOr ks (rowsIn columnPageWidth table) (wholeColumn t file table old)
   roomy ks Q each page =
-      whole ks t file table old (k .few)
+      whole-numbers ks t file table old (k .few)
       (pages-or ks t file (length old) (λ end. end ≤ length old) (λ a b h. omega arith) (columnPages table)
       (each-weaken (λ p a. page p (a .0) (a .1 .0) (a .1 .1)) (columnPages table)
       (each-both (InPlace t file) (λ p. Few p × Q p) (columnPages table) (in-place t file table k) (each-both Few Q (columnPages table) (r .few) each)))

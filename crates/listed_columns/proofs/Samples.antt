@@ -90,11 +90,11 @@ module _ (list : List ℕ) (told : ℕ) (before pages : List ℕ) (count : ℕ) 
         listBytes = bytes-tested list bytes;
         entries = 1;
         told = told;
-        long = long;
         before = before;
         pages = pages;
         count = count;
         accepted = accepted;
+        long = long;
         column = c;
         isType = isType;
         isReadable = isReadable;

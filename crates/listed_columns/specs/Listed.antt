@@ -21,7 +21,7 @@ use Rattle.tree.specs.Bytes.{Bytes}
 use Rattle.page_rules.specs.Page.{readable, mostElements}
 use Rattle.column_rules.specs.declared.ColumnPage.{ColumnPage}
 use Rattle.column_rules.specs.Column.{acceptAll, columnPageWidth, columnPages, mostColumnPages, Decoding, indexOf, wholeColumn}
-use Rattle.column_rules.specs.Statements.{RefusedAt, elementsOf}
+use Rattle.column_rules.specs.Statements.{AcceptsOr, elementsOf}
 
 -- What an accepted header and page list say of sizes.
 
@@ -60,32 +60,32 @@ pub record Listed (c : ℕ) (pages : List ℕ) (n : ℕ) (p : ColumnPage) : Type
 abbrev pub typeIn : Header → ℕ → ℕ
 typeIn h c = getD (map (λ (r : ColumnRow). r .«column_type») (h .lists .columns)) c 0
 
--- A call of type t on pages of column c: the page list was accepted beside its header, the type is that of the column and is readable, the pages
--- are any of the column's, in any order, and the lent part of the file has as many bytes as the reader was told, or more.
+-- A call of type t, with a part of a file and a table of pages, on pages that a page list has.
 pub record ListedCall (t : ℕ) (file table : List ℕ) : Type 0 where
+  -- a header that was read
   pub header : List ℕ
   pub headerBytes : Bytes header
   pub tables : Header
   pub place : ℕ
   pub isRead : headerOf header ≡ found tables place
+  -- a page list that was accepted beside it, with the table of pages that was lent and what it then had
   pub list : List ℕ
   pub listBytes : Bytes list
   pub entries : ℕ
   pub told : ℕ
-  pub long : told ≤ length file
   pub before : List ℕ
   pub pages : List ℕ
   pub count : ℕ
   pub accepted : Answered (pageListBeside header list entries told) before pages (Accepted count)
+  -- the part of the file has as many bytes as the reader was told that the file has, or more
+  pub long : told ≤ length file
+  -- the type is that of a column, and its pages are read
   pub column : ℕ
   pub isType : t ≡ typeIn tables column
   pub isReadable : readable t ≡ true
+  -- the pages are any of that column, in any order
   pub few : rowsIn columnPageWidth table ≤ mostColumnPages
   pub listed : Each (Listed column pages count) (columnPages table)
-
--- a call accepts so many pages, or refuses one of them by one of these numbers
-abbrev pub AcceptsOr : List ℕ → ℕ → Decoding → Type 0
-AcceptsOr ks pages d = (d .outcome ≡ acceptAll pages) ⊎ ((indexOf d < pages) × RefusedAt ks (indexOf d) d)
 
 -- the numbers that are left: too many elements, a checksum that is not right, unused bits that are set, no room
 abbrev pub inListed : List ℕ
