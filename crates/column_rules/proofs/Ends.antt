@@ -10,24 +10,17 @@ use native.Mathlib.Omega.{arith}
 use lib.ListN.{length, take, drop, length-append, take-append-drop}
 use Rattle.numbers.specs.Rows.{flat, over}
 use Rattle.numbers.proofs.Choice.{clash}
-use Rattle.outcome.specs.Outcome.{Outcome, isAccepted}
-use Rattle.page_rules.specs.Page.{RefusedBy}
+use Rattle.outcome.specs.Outcome.{isAccepted}
 use Rattle.page_rules.proofs.Laid.{length-left}
 use Rattle.column_rules.specs.declared.ColumnPage.{ColumnPage}
 use Rattle.column_rules.specs.Column.{acceptAll, refuseAt, pageOutcome, pageDecoded, Decoding, indexOf, inTurn}
-use Rattle.column_rules.specs.Statements.{inColumn, RefusedAt, pageElements}
-use Rattle.column_rules.proofs.TurnLaws.{refused-is, page-accepted, turn-accepted, turn-refused, one-after-other}
-
--- a page that is refused by one of some numbers ends the pages with it
-refused-at : (ks : List ℕ) (o : Outcome) (i : ℕ) (words : List ℕ) → RefusedBy ks o → RefusedAt ks i (record { outcome = refuseAt (o .number) i; words = words })
-refused-at (k ∷ ks) o i words (inl e) = inl (ap (λ (x : Outcome). refuseAt (x .number) i) e)
-refused-at (k ∷ ks) o i words (inr r) = inr (refused-at ks o i words r)
+use Rattle.column_rules.specs.Statements.{pageElements}
+use Rattle.column_rules.proofs.TurnLaws.{page-accepted, turn-accepted, turn-refused, one-after-other}
 
 module _ (t : ℕ) (file : List ℕ) where
   -- the pages from number i on stop at one that is refused, whatever comes after it
   pub record Stops (ps : List ColumnPage) (i start : ℕ) (old : List ℕ) (d : Decoding) (done : ℕ) : Type 0 where
     pub less : done < length ps
-    pub number : RefusedAt inColumn (i + done) d
     pub same : (qs : List ColumnPage) → inTurn t file (take (suc done) ps ++ qs) i start old ≡ d
 
   -- so many of them are accepted, and leave the words that are left; they are all, or the next is refused
@@ -50,11 +43,9 @@ module _ (t : ℕ) (file : List ℕ) where
           let next : i + suc done ≡ suc i + done = omega arith in
           inl (ap suc (l .0), rw next (l .1))
       more-last done (inr s) =
-          let next : i + suc done ≡ suc i + done = omega arith in
           let less = s .less in
           inr (record {
             less = omega arith;
-            number = rw next (s .number);
             same = λ qs. turn-accepted t file p old start (take (suc done) ps ++ qs) i e ∙ s .same qs;
           })
 
@@ -82,7 +73,6 @@ module _ (t : ℕ) (file : List ℕ) where
         before = rw (add-zero i);
         last = inr (record {
           less = omega arith;
-          number = rw (add-zero i) (refused-at inColumn (pageOutcome t file p (length old) start) i old (refused-is t file p old start e));
           same = λ qs. turn-refused t file p old start qs i e;
         });
       }

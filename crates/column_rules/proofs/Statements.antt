@@ -1,8 +1,8 @@
 -- What holds of every call on a column.
 -- Assumes nothing.
-use Prim.Native.Nat.{ℕ, suc, _+_, _*_, _<_, _≤_}
+use Prim.Native.Nat.{ℕ, suc, _+_, _*_, _≤_}
 use mathlib.Core.Path.{_≡_, sym, ap, ap₂, _∙_, subst}
-use mathlib.Core.List.{List, [], _++_, append-nil}
+use mathlib.Core.List.{List, [], _∷_, _++_, append-nil}
 use mathlib.Core.Logic.{_⊎_, inl, inr}
 use native.Mathlib.Nat.{zero-add}
 use native.Mathlib.Omega.{arith}
@@ -15,7 +15,9 @@ use Rattle.rows.proofs.FirstRows.{rows-length}
 use Rattle.column_rules.specs.declared.ColumnPage.{ColumnPage}
 use Rattle.column_rules.specs.declared.ColumnAnswer.the-variants.{Decoded, Refused}
 use Rattle.column_rules.specs.Column.{OutcomeTells, acceptAll, refuseAt, columnPageWidth, columnPageOf, columnPage, columnPages, mostColumnPages, Decoding, indexOf, inTurn, wholeColumn}
-use Rattle.column_rules.specs.Statements.{RefusedAt, inColumn, Filled, BeforeRefused, RestUnseen, ColumnNumbers, NoPages, TooManyPages}
+use Rattle.column_rules.specs.Statements.{AcceptsOr, inColumn, Filled, BeforeRefused, RestUnseen, ColumnNumbers, NoPages, TooManyPages}
+use Rattle.column_rules.proofs.TurnLaws.{page-numbers}
+use Rattle.column_rules.proofs.Numbers.{PagesOr, turned}
 use Rattle.column_rules.proofs.Ends.{Stops, Ends, ends, all-left}
 use Rattle.column_rules.proofs.FrontRows.{first-take, first-same, rows-with, front-row}
 
@@ -93,22 +95,21 @@ module _ (t : ℕ) (file table old : List ℕ) (few : rowsIn columnPageWidth tab
     row-there : suc i ≤ rowsIn columnPageWidth table
     row-there = let a = stops-there .less in let b = rows-are in omega arith
 
+-- a call on few pages is refused by the numbers that each page at its place is refused by
+pub whole-numbers : (ks : List ℕ) (t : ℕ) (file table old : List ℕ) → rowsIn columnPageWidth table ≤ mostColumnPages
+    → PagesOr ks t file (length old) (columnPages table) 0 → AcceptsOr ks (rowsIn columnPageWidth table) (wholeColumn t file table old)
+whole-numbers ks t file table old few each =
+    let rows : 0 + length (columnPages table) ≡ rowsIn columnPageWidth table = zero-add (length (columnPages table)) ∙ rows-are t file table old few in
+    rw (few-pages t file table old few)
+    (subst (λ (m : ℕ). AcceptsOr ks m (inTurn t file (columnPages table) 0 0 old)) rows (turned ks t file (columnPages table) 0 0 old each))
+
 pub column-numbers : ColumnNumbers
 unfolding ColumnNumbers
-column-numbers t file table old few = by (whole-ends t file table old few .last)
+column-numbers t file table old few = whole-numbers inColumn t file table old few (each (columnPages table) 0)
   where
-    r : Ends t file (columnPages table) 0 0 old (wholeColumn t file table old)
-    r = whole-ends t file table old few
-
-    by : ((r .done ≡ length (columnPages table)) × (wholeColumn t file table old .outcome ≡ acceptAll (0 + r .done))) ⊎ Stops t file (columnPages table) 0 0 old (wholeColumn t file table old) (r .done)
-        → (wholeColumn t file table old .outcome ≡ acceptAll (rowsIn columnPageWidth table))
-        ⊎ ((indexOf (wholeColumn t file table old) < rowsIn columnPageWidth table) × RefusedAt inColumn (indexOf (wholeColumn t file table old)) (wholeColumn t file table old))
-    by (inl l) = inl (l .1 ∙ ap acceptAll (zero-add (r .done) ∙ l .0 ∙ rows-are t file table old few))
-    by (inr s) =
-        let less = s .less in
-        let many = rows-are t file table old few in
-        let at = accepted-pages t file table old few in
-        inr (omega arith, subst (λ (j : ℕ). RefusedAt inColumn j (wholeColumn t file table old)) (sym (r .index)) (s .number))
+    each : (ps : List ColumnPage) (start : ℕ) → PagesOr inColumn t file (length old) ps start
+    each [] start = tt
+    each (p ∷ ps) start = (page-numbers t file p old start, each ps (start + p .elements))
 
 pub filled : Filled
 unfolding Filled

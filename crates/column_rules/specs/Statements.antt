@@ -51,13 +51,15 @@ RefusedAt (k ∷ ks) i d = (d .outcome ≡ refuseAt k i) ⊎ RefusedAt ks i d
 abbrev pub inColumn : List ℕ
 inColumn = 23 ∷ 10 ∷ 18 ∷ 21 ∷ 22 ∷ 24 ∷ 20 ∷ []
 
--- a call accepts all pages, or refuses one of them by one of these numbers
+-- a call accepts so many pages, or refuses one of them by one of these numbers
+abbrev pub AcceptsOr : List ℕ → ℕ → Decoding → Type 0
+AcceptsOr ks pages d = (d .outcome ≡ acceptAll pages) ⊎ ((indexOf d < pages) × RefusedAt ks (indexOf d) d)
+
+-- a call accepts all pages, or refuses one of them by one of its numbers
 unfoldable pub ColumnNumbers : Type 0
 ColumnNumbers =
     (t : ℕ) (file table old : List ℕ) → rowsIn columnPageWidth table ≤ mostColumnPages
-    → let d : Decoding = wholeColumn t file table old in
-    (d .outcome ≡ acceptAll (rowsIn columnPageWidth table))
-    ⊎ ((indexOf d < rowsIn columnPageWidth table) × RefusedAt inColumn (indexOf d) d)
+    → AcceptsOr inColumn (rowsIn columnPageWidth table) (wholeColumn t file table old)
 
 -- no pages are accepted, whatever the type; words that are no whole row are not looked at
 unfoldable pub NoPages : Type 0
