@@ -90,6 +90,19 @@ drop-unpacked (suc d) (suc n) i bs =
     let b : i + 1 + d ≡ i + suc d = omega arith in
     drop-unpacked d n (i + 1) bs ∙ ap₂ (λ (x y : ℕ). unpacked x y bs) a b
 
+-- k bits more, behind the first n
+pub unpacked-more : (n k i : ℕ) (bs : List ℕ) → unpacked (n + k) i bs ≡ unpacked n i bs ++ unpacked k (i + n) bs
+unfolding unpacked
+unpacked-more zero k i bs =
+    let a : zero + k ≡ k = omega arith in
+    let b : i ≡ i + zero = omega arith in
+    ap₂ (λ (x y : ℕ). unpacked x y bs) a b
+unpacked-more (suc n) k i bs =
+    let a : suc n + k ≡ suc (n + k) = omega arith in
+    let b : i + 1 + n ≡ i + suc n = omega arith in
+    ap (λ (x : ℕ). unpacked x i bs) a
+    ∙ ap (λ (l : List ℕ). bitAt bs i ∷ l) (unpacked-more n k (i + 1) bs ∙ ap (λ (y : ℕ). unpacked n (i + 1) bs ++ unpacked k y bs) b)
+
 -- the round trip, with any bytes behind the page
 
 pub unpacked-packed : (m : ℕ) (xs rest : List ℕ) → length xs ≤ 8 * m → Below 2 xs → unpacked (length xs) 0 (packed m xs ++ rest) ≡ xs

@@ -144,7 +144,7 @@ unfolding plain
 plain-append k [] ys = refl
 plain-append k (x ∷ xs) ys = ap (λ (l : List ℕ). bytesOf k x ++ l) (plain-append k xs ys) ∙ sym (append-assoc (bytesOf k x) (plain k xs) (plain k ys))
 
-over-more : (n : ℕ) (a b d : List ℕ) → length a ≡ n → take n (over a d) ++ over b (drop n (over a d)) ≡ over (a ++ b) d
+pub over-more : (n : ℕ) (a b d : List ℕ) → length a ≡ n → take n (over a d) ++ over b (drop n (over a d)) ≡ over (a ++ b) d
 over-more n a b d e =
     ap₂ (λ (u v : List ℕ). u ++ over b v) (take-at a (drop (length a) d) n e) (drop-at a (drop (length a) d) n e)
     ∙ ap (λ (l : List ℕ). a ++ (b ++ l)) (drop-drop (length b) (length a) d ∙ ap (λ (m : ℕ). drop m d) (sym (length-append a b)))
