@@ -44,7 +44,8 @@
  *   26  page list has another checksum than its cluster's row
  *
  * Results. A call with result words writes all of them: the values named at
- * the call when it accepts, zeros when it refuses. Words beyond those named
+ * the call when it accepts, zeros when it refuses (rnt_decode_column has its
+ * index there, see below). Words beyond those named
  * are left alone. Where fewer words are lent than are named, the answer is
  * RNT_RESULT_TOO_SHORT and nothing at all is written, no table either.
  *
@@ -53,8 +54,10 @@
  * table, and on acceptance the rows beyond the count keep their contents.
  *
  * One call is an exception: when rnt_decode_column refuses a page, the pages
- * before it stay decoded, and its result is that page's index. With every
- * other call a refusal changes nothing that was lent but the result.
+ * before it stay decoded. Its result is then that page's index, or
+ * RNT_MOST_COLUMN_PAGES where there are too many pages, of which none is
+ * decoded. With every other call a refusal changes nothing that was lent but
+ * the result.
  */
 #ifndef RNTUPLE_CHECK_H
 #define RNTUPLE_CHECK_H

@@ -1,5 +1,6 @@
 //! What is refused, and why.
 
+use crate::most;
 use std::error::Error;
 use std::fmt;
 
@@ -128,7 +129,8 @@ impl fmt::Display for Refusal {
 
 impl Error for Refusal {}
 
-/// A refused page of a column. The pages before it stay decoded.
+/// A refused page of a column, the pages before which stay decoded; or too many
+/// pages.
 #[derive(Clone, Copy, Debug, PartialEq, Eq, Hash)]
 pub struct ColumnRefusal {
     pub refusal: Refusal,
@@ -139,6 +141,9 @@ pub struct ColumnRefusal {
 
 impl fmt::Display for ColumnRefusal {
     fn fmt(&self, f: &mut fmt::Formatter) -> fmt::Result {
+        if self.index == most::COLUMN_PAGES {
+            return write!(f, "more than {} pages of the column: {}", self.index, self.refusal);
+        }
         write!(f, "page {} of the column: {}", self.index, self.refusal)
     }
 }

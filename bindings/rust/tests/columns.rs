@@ -213,4 +213,8 @@ fn rows_of_page_lists_and_words_of_refusals() {
         "page 5 of the column: page refused 18: byte range not inside the file, that of a page with its check bytes"
     );
     assert_eq!(refusal.source().unwrap().to_string(), refusal.refusal.to_string());
+    assert_eq!(
+        refused(Reason::CountAboveCeiling, most::COLUMN_PAGES).to_string(),
+        "more than 256 pages of the column: page refused 10: count above a ceiling"
+    );
 }

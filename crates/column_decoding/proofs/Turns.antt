@@ -2,22 +2,22 @@
 -- Assumes nothing.
 use mathlib.Core.Path.{_≡_, refl, sym, ap, _∙_}
 use mathlib.Core.Bool.{Bool, true, false, false≢true}
-use mathlib.Core.List.{List, [], _∷_}
-use Prim.Native.Nat.{ℕ, suc, _+_, _-_, _<_, _≤_}
+use mathlib.Core.List.{List, _∷_}
+use Prim.Native.Nat.{ℕ, _+_, _-_, _<_, _≤_}
 use native.Mathlib.Numerals.{add-one}
 use native.Mathlib.Omega.{arith}
 use lib.Dec.{leb, eqb}
-use lib.ListN.{length, getD, take, drop, drop-of-length-le}
-use lib.Seq.{drop-cons}
-use borrow.Author.Tests.{le-leb, lt-leb, leb-true, eqb-true}
+use lib.ListN.{length, getD, take, drop}
+use borrow.Author.Tests.{le-leb, lt-leb, leb-true}
 use Rattle.numbers.specs.Numbers.{trailer}
 use Rattle.outcome.specs.Outcome.{Outcome, isAccepted}
-use Rattle.rows.specs.Tables.{rowsIn, firstRows}
-use Rattle.rows.proofs.FirstRows.{rows-length, row-at}
+use Rattle.rows.specs.Tables.{rowsIn}
+use Rattle.rows.proofs.FirstRows.{next-row, no-rows}
+use Rattle.wire.specs.Reading.{unless}
 use Rattle.locator.specs.Locator.{inFile}
 use Rattle.page_rules.specs.Page.{accept, refuse}
 use Rattle.column_rules.specs.declared.ColumnPage.{ColumnPage}
-use Rattle.column_rules.specs.Column.{Decoding, acceptAll, refuseAt, columnPageWidth, columnPage, columnPages, inside, pageBytes, pageOutcome, pageDecoded, inTurn, wholeColumn}
+use Rattle.column_rules.specs.Column.{acceptAll, refuseAt, columnPageWidth, columnPage, columnPages, inside, pageBytes, pageOutcome, pageDecoded, inTurn, wholeColumn}
 use Rattle.column_rules.proofs.TurnLaws.{page-accepted, page-refused, turn-accepted, turn-refused}
 
 -- the code's verdict on a page's range, and the part that it lends
@@ -28,7 +28,7 @@ verdict-inside file p behind r e v = ap (λ (x : ℕ). eqb x 0) (v ∙ ap (λ (b
 pub inside-within : (file : List ℕ) (p : ColumnPage) (behind : ℕ) → behind ≡ trailer (p .checksum) → inside file p ≡ true → p .offset + p .size + behind ≤ length file
 inside-within file p behind e h = rw e (by (leb (p .offset + p .size + trailer (p .checksum)) (length file)) refl h)
   where
-    by : (b : Bool) → leb (p .offset + p .size + trailer (p .checksum)) (length file) ≡ b → eqb (Rattle.wire.specs.Reading.unless b 18 0) 0 ≡ true → p .offset + p .size + trailer (p .checksum) ≤ length file
+    by : (b : Bool) → leb (p .offset + p .size + trailer (p .checksum)) (length file) ≡ b → eqb (unless b 18 0) 0 ≡ true → p .offset + p .size + trailer (p .checksum) ≤ length file
     by true l h = leb-true _ _ l
     by false l h = absurd (false≢true h)
 
@@ -59,12 +59,11 @@ module _ (t : ℕ) (file table old : List ℕ) where
   module _ {i start : ℕ} {now : List ℕ} (r : Reached t file table old i start now) where
     -- what the rows from the next one on do
     next : {p : ColumnPage} → i < rowsIn columnPageWidth table → p ≡ columnPage table i
-        → inTurn t file (columnPages table) 0 0 old ≡ inTurn t file (p ∷ drop (suc i) (columnPages table)) i start now
+        → inTurn t file (columnPages table) 0 0 old ≡ inTurn t file (p ∷ drop (i + 1) (columnPages table)) i start now
     next {p} h e =
-        let many = rows-length columnPage table (rowsIn columnPageWidth table) in
         r .same
-        ∙ ap (λ (ps : List ColumnPage). inTurn t file ps i start now) (drop-cons (columnPages table) i p (omega arith))
-        ∙ ap (λ (q : ColumnPage). inTurn t file (q ∷ drop (suc i) (columnPages table)) i start now) (row-at columnPage table (rowsIn columnPageWidth table) i p h ∙ sym e)
+        ∙ ap (λ (ps : List ColumnPage). inTurn t file ps i start now) (next-row columnPage table (rowsIn columnPageWidth table) i h)
+        ∙ ap (λ (q : ColumnPage). inTurn t file (q ∷ drop (i + 1) (columnPages table)) i start now) (sym e)
 
     pub reached-more : {n : ℕ} {new : List ℕ} {p : ColumnPage} → i < rowsIn columnPageWidth table → p ≡ columnPage table i → accept n ≡ pageOutcome t file p (length now) start
         → new ≡ pageDecoded t file p now start → length new ≡ length now → Reached t file table old (i + 1) (start + n) new
@@ -72,7 +71,7 @@ module _ (t : ℕ) (file table old : List ℕ) where
         let a = page-accepted t file p now start (ap isAccepted (sym answers)) in
         let count : n ≡ p .elements = ap (λ (o : Outcome). getD (o .counts) 0 0) (answers ∙ a .answers) in
         record {
-          same = next h e ∙ turn-accepted t file p now start _ i (ap isAccepted (sym answers)) ∙ rw (count, leaves, add-one i);
+          same = next h e ∙ turn-accepted t file p now start _ i (ap isAccepted (sym answers)) ∙ rw (count, leaves, ← add-one i);
           room = omega (arith, a .room);
           long = l ∙ r .long;
           most = omega arith;
@@ -88,9 +87,8 @@ module _ (t : ℕ) (file table old : List ℕ) where
     pub reached-all : rowsIn columnPageWidth table ≤ i → rowsIn columnPageWidth table ≤ 256 → record { outcome = acceptAll (rowsIn columnPageWidth table); words = now } ≡ wholeColumn t file table old
     unfolding inTurn
     reached-all h few =
-        let many = rows-length columnPage table (rowsIn columnPageWidth table) in
         let m = r .most in
         let all : rowsIn columnPageWidth table ≡ i = omega arith in
         ap (λ (n : ℕ). record { outcome = acceptAll n; words = now }) all
-        ∙ sym (r .same ∙ ap (λ (ps : List ColumnPage). inTurn t file ps i start now) (drop-of-length-le (columnPages table) {i = i} (omega arith)))
+        ∙ sym (r .same ∙ ap (λ (ps : List ColumnPage). inTurn t file ps i start now) (no-rows columnPage table (rowsIn columnPageWidth table) i h))
         ∙ few-enough few

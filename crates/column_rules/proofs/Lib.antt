@@ -1,7 +1,6 @@
 pub mod TurnLaws
 pub mod Ends
 pub mod Numbers
-pub mod FrontRows
 pub mod Statements
 pub mod SingleCalls
 pub mod Unreadable

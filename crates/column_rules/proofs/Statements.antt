@@ -19,7 +19,7 @@ use Rattle.column_rules.specs.Statements.{AcceptsOr, inColumn, Filled, B
 use Rattle.column_rules.proofs.TurnLaws.{page-numbers}
 use Rattle.column_rules.proofs.Numbers.{PagesOr, turned}
 use Rattle.column_rules.proofs.Ends.{Stops, Ends, ends, all-left}
-use Rattle.column_rules.proofs.FrontRows.{first-take, first-same, rows-with, front-row}
+use Rattle.rows.proofs.FrontRows.{first-take, first-same, rows-with, front-row}
 
 -- an acceptance is no refusal
 no-refusal : {A : Type 0} (pages k i : ℕ) → acceptAll pages ≡ refuseAt k i → A

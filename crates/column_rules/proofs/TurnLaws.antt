@@ -1,25 +1,23 @@
 -- One page of a column, test by test, and the pages in turn.
 -- Assumes nothing.
-use Prim.Native.Nat.{ℕ, suc, _+_, _<_, _≤_}
+use Prim.Native.Nat.{ℕ, suc, _+_, _≤_}
 use mathlib.Core.Path.{_≡_, refl, sym, ap, _∙_}
 use mathlib.Core.Bool.{Bool, true, false}
 use mathlib.Core.List.{List, [], _∷_, _++_, append-assoc}
 use mathlib.Core.Logic.{_⊎_, inl, inr}
-use native.Mathlib.Nat.{add-zero}
 use native.Mathlib.Omega.{arith}
 use lib.Dec.{leb}
 use lib.ListN.{length, take, drop, length-append}
 use lib.Seq.{take-at, drop-at, drop-drop, length-take-le}
-use Rattle.numbers.specs.Choice.{pick}
 use Rattle.numbers.specs.Rows.{over}
 use Rattle.numbers.proofs.Choice.{clash}
 use Rattle.outcome.specs.Outcome.{Outcome, isAccepted, codeOf}
 use Rattle.page_rules.specs.Page.{accept, refuse, unless, asked, readable, mostElements, RefusedBy, DecodeNumbers, decodeOutcome, decoded, elements}
 use Rattle.page_rules.proofs.Laid.{length-elements}
-use Rattle.page_rules.proofs.Decoding.{asked-23, asked-10, asked-passed, asked-by, taken, decodes, decode-numbers, decoded-accepted, decoded-refused}
+use Rattle.page_rules.proofs.Decoding.{asked-23, asked-by, taken, decodes, decode-numbers, decoded-accepted, decoded-refused}
 use Rattle.column_rules.specs.declared.ColumnPage.{ColumnPage}
-use Rattle.column_rules.specs.Column.{refuseAt, inside, pageBytes, pageOutcome, pageDecoded, Decoding, inTurn}
-use Rattle.column_rules.specs.Statements.{inColumn, pageElements, elementsOf}
+use Rattle.column_rules.specs.Column.{refuseAt, inside, pageBytes, pageOutcome, pageDecoded, inTurn}
+use Rattle.column_rules.specs.Statements.{inColumn, pageElements}
 
 -- a refusal by one of some numbers is the refusal by its own number
 pub by-number : (ks : List ℕ) (o : Outcome) → RefusedBy ks o → o ≡ refuse (o .number)
@@ -66,17 +64,10 @@ module _ (t : ℕ) (file : List ℕ) (p : ColumnPage) (old : List ℕ) (start : 
   unfolding pageOutcome pageDecoded
   is-outside h = (rw h, rw h)
 
-  -- the first tests, whatever the bytes
+  -- the first test, whatever the bytes
   pub refused-23 : readable t ≡ false → refuse 23 ≡ answer
   unfolding pageOutcome
   refused-23 r = asked-23 t n _ r
-
-  pub refused-10 : readable t ≡ true → mostElements < n → refuse 10 ≡ answer
-  unfolding pageOutcome
-  refused-10 r h = asked-10 t n _ r h
-
-  pub refused-18 : readable t ≡ true → n ≤ mostElements → inside file p ≡ false → refuse 18 ≡ answer
-  refused-18 r h o = asked-passed t n (refuse 18) r h ∙ sym (is-outside o .0)
 
   -- a page accepts as many elements as its row has, or is refused by a number of its own
   pub page-numbers : (answer ≡ accept n) ⊎ RefusedBy inColumn answer
@@ -167,25 +158,3 @@ one-after-other old xs ys start n many h =
     let joined : front ++ (xs ++ rest) ≡ (front ++ xs) ++ rest = sym (append-assoc front xs rest) in
     rw (joined, take-at (front ++ xs) rest (start + n) size, drop-at (front ++ xs) rest (start + n) size, length-append xs ys)
     (rw (drop-drop (length ys) (length xs) (drop start old)) (simp append-assoc))
-
-module _ (t : ℕ) (file : List ℕ) where
-  -- pages in two parts: the second is decoded where the first is accepted, from where it ended on
-
-  abbrev parts : List ColumnPage → List ColumnPage → ℕ → ℕ → List ℕ → Decoding
-  parts ps qs i start old =
-      pick (isAccepted (inTurn t file ps i start old .outcome))
-      (inTurn t file qs (i + length ps) (start + elementsOf ps) (inTurn t file ps i start old .words))
-      (inTurn t file ps i start old)
-
-  pub turn-append : (ps qs : List ColumnPage) (i start : ℕ) (old : List ℕ) → inTurn t file (ps ++ qs) i start old ≡ parts ps qs i start old
-  unfolding inTurn elementsOf
-  turn-append [] qs i start old = rw (add-zero i, add-zero start)
-  turn-append (p ∷ ps) qs i start old = by (turn-append ps qs (suc i) (start + p .elements) (pageDecoded t file p old start)) (isAccepted (pageOutcome t file p (length old) start)) refl
-    where
-      by : inTurn t file (ps ++ qs) (suc i) (start + p .elements) (pageDecoded t file p old start) ≡ parts ps qs (suc i) (start + p .elements) (pageDecoded t file p old start)
-          → (b : Bool) → isAccepted (pageOutcome t file p (length old) start) ≡ b → inTurn t file (p ∷ (ps ++ qs)) i start old ≡ parts (p ∷ ps) qs i start old
-      by rest true e =
-          let next : i + suc (length ps) ≡ suc i + length ps = omega arith in
-          let further : start + (p .elements + elementsOf ps) ≡ start + p .elements + elementsOf ps = omega arith in
-          rw (turn-accepted t file p old start (ps ++ qs) i e, turn-accepted t file p old start ps i e, next, further) rest
-      by rest false e = rw (turn-refused t file p old start (ps ++ qs) i e, turn-refused t file p old start ps i e)

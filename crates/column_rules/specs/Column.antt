@@ -15,7 +15,7 @@ use Rattle.column_rules.specs.declared.ColumnPage.{ColumnPage}
 use Rattle.column_rules.specs.declared.ColumnAnswer.{ColumnAnswer}
 use Rattle.column_rules.specs.declared.ColumnAnswer.the-variants.{Decoded, Refused}
 
--- the count of a column call: its pages, or the index of the refused page, which other than elsewhere stands beside a refusal
+-- the count of a column call: its pages, or the index of the refused page. Here, and in no other call, a refusal has a count
 
 abbrev pub acceptAll : ℕ → Outcome
 acceptAll pages = acceptedWith (pages ∷ [])

@@ -27,7 +27,7 @@ pub data SingleCalls (t : ℕ) (file : List ℕ) : List ColumnPage → ℕ → �
   stops : {p : ColumnPage} {ps : List ColumnPage} {i start r : ℕ} {old new : List ℕ}
       → SingleCall t file p start old new (suc r)
       → SingleCalls t file (p ∷ ps) i start old (suc r) i new
-  -- where there are no bytes to hand to a single call: 23, 10, else 18
+  -- a page whose bytes are not all in the file part: there is nothing to hand to a single call, and the rule alone answers, 23, 10, else 18
   outside : {p : ColumnPage} {ps : List ColumnPage} {i start : ℕ} {old : List ℕ}
       → inside file p ≡ false
       → SingleCalls t file (p ∷ ps) i start old (codeOf (asked t (p .elements) (refuse 18))) i old

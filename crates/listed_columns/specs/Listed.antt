@@ -1,7 +1,6 @@
 -- The pages of one column of an accepted page list, lent to the call on a column together with the file that they are in: what is left to refuse.
 use Prim.Native.Nat.{ℕ, _≤_, _<_}
 use mathlib.Core.List.{List, [], _∷_, map}
-use mathlib.Core.Logic.{_⊎_}
 use mathlib.Core.Bool.{true, false}
 use mathlib.Core.Path.{_≡_}
 use lib.ListN.{length, getD}
@@ -20,7 +19,7 @@ use Rattle.page_list.specs.declared.PageListAnswer.the-variants.{Accepted}
 use Rattle.tree.specs.Bytes.{Bytes}
 use Rattle.page_rules.specs.Page.{readable, mostElements}
 use Rattle.column_rules.specs.declared.ColumnPage.{ColumnPage}
-use Rattle.column_rules.specs.Column.{acceptAll, columnPageWidth, columnPages, mostColumnPages, Decoding, indexOf, wholeColumn}
+use Rattle.column_rules.specs.Column.{acceptAll, columnPageWidth, columnPages, mostColumnPages, wholeColumn}
 use Rattle.column_rules.specs.Statements.{AcceptsOr, elementsOf}
 
 -- What an accepted header and page list say of sizes.

@@ -7,10 +7,10 @@ use native.Mathlib.Numerals.{add-one}
 use native.Mathlib.Omega.{arith}
 use lib.Dec.{ltb, leb, eqb}
 use borrow.Author.Tests.{le-leb, lt-leb, lt-ltb, le-ltb, eq-eqb, ne-eqb, eqb-true, eqb-false, leb-true, leb-false}
-use lib.ListN.{length, drop, drop-of-length-le}
-use lib.Seq.{drop-cons, drop-drop}
+use lib.ListN.{length, drop}
+use lib.Seq.{drop-drop}
 use Rattle.numbers.specs.Choice.{pick, both}
-use Rattle.rows.proofs.FirstRows.{rows-length, row-at}
+use Rattle.rows.proofs.FirstRows.{next-row, no-rows}
 use Rattle.writing.specs.Rows.{pageWordsAt, pageRowsIn}
 use Rattle.writing.specs.PageList.{inColumnOrder}
 use Rattle.writing.specs.declared.PageWords.{PageWords}
@@ -51,17 +51,6 @@ without-run n c (p ∷ ps) h = by (eqb (p .column) c) refl (without-run n c ps h
         ap (λ (b : Bool). both b (both (ltb (p .column) n) (inColumnOrder n (p .column) ps))) (next-least c (p .column) differs)
 
 module _ (table : List ℕ) where
-  -- the rows from row i on
-  next-row : (i : ℕ) → i < length table / 5 → drop i (pageRowsIn table) ≡ pageWordsAt table i ∷ drop (i + 1) (pageRowsIn table)
-  next-row i h =
-      let rows = pageRowsIn table in
-      let many = rows-length pageWordsAt table (length table / 5) in
-      let d = pageWordsAt table 0 in
-      drop-cons rows i d (omega arith) ∙ (λ j. row-at pageWordsAt table (length table / 5) i d h j ∷ drop (sym (add-one i) j) rows)
-
-  no-rows : (i : ℕ) → length table / 5 ≤ i → drop i (pageRowsIn table) ≡ []
-  no-rows i h = let many = rows-length pageWordsAt table (length table / 5) in drop-of-length-le (pageRowsIn table) {i = i} (omega arith)
-
   -- the rows before row i are in order: what is left decides
   pub record Ordered (n i least : ℕ) : Type 0 where
     pub same : inColumnOrder n 0 (pageRowsIn table) ≡ inColumnOrder n least (drop i (pageRowsIn table))
@@ -72,13 +61,13 @@ module _ (table : List ℕ) where
 
     pub ordered-all : {i least : ℕ} → Ordered n i least → length table / 5 ≤ i → true ≡ inColumnOrder n 0 (pageRowsIn table)
     unfolding inColumnOrder
-    ordered-all {i} {least} m h = sym (m .same ∙ ap (inColumnOrder n least) (no-rows i h))
+    ordered-all {i} {least} m h = sym (m .same ∙ ap (inColumnOrder n least) (no-rows pageWordsAt table (length table / 5) i h))
 
     module _ {i least : ℕ} (m : Ordered n i least) (h : i < length table / 5) {column : ℕ} (is : column ≡ pageWordsAt table i .column) where
       one : inColumnOrder n 0 (pageRowsIn table) ≡ both (leb least column) (both (ltb column n) (inColumnOrder n column (drop (i + 1) (pageRowsIn table))))
       unfolding inColumnOrder
       one =
-          m .same ∙ ap (inColumnOrder n least) (next-row i h)
+          m .same ∙ ap (inColumnOrder n least) (next-row pageWordsAt table (length table / 5) i h)
           ∙ ap (λ (k : ℕ). both (leb least k) (both (ltb k n) (inColumnOrder n k (drop (i + 1) (pageRowsIn table))))) (sym is)
 
       pub ordered-more : least ≤ column → column < n → Ordered n (i + 1) column
@@ -106,8 +95,8 @@ module _ (table : List ℕ) where
     ordered-end {i} {c} m last inside = by (eqb i (length table / 5)) refl ∙ sym (m .same ∙ ap (λ (k : ℕ). inColumnOrder n k (drop i (pageRowsIn table))) last)
       where
         by : (b : Bool) → eqb i (length table / 5) ≡ b → b ≡ inColumnOrder n n (drop i (pageRowsIn table))
-        by true e = let all = eqb-true i (length table / 5) e in sym (ap (inColumnOrder n n) (no-rows i (omega arith)))
-        by false e = let some = eqb-false i (length table / 5) e in sym (ap (inColumnOrder n n) (next-row i (omega arith)) ∙ none-behind n (pageWordsAt table i) (drop (i + 1) (pageRowsIn table)))
+        by true e = let all = eqb-true i (length table / 5) e in sym (ap (inColumnOrder n n) (no-rows pageWordsAt table (length table / 5) i (omega arith)))
+        by false e = let some = eqb-false i (length table / 5) e in sym (ap (inColumnOrder n n) (next-row pageWordsAt table (length table / 5) i (omega arith)) ∙ none-behind n (pageWordsAt table i) (drop (i + 1) (pageRowsIn table)))
 
   -- the run of column c that starts with row `first` has the rows up to i
   pub record InRun (c first i : ℕ) : Type 0 where
@@ -119,12 +108,12 @@ module _ (table : List ℕ) where
 
     pub run-all : {i : ℕ} → InRun c first i → length table / 5 ≤ i → i ≡ first + leading c (drop first (pageRowsIn table))
     unfolding leading
-    run-all {i} m h = omega (arith, m .same, ap (leading c) (no-rows i h))
+    run-all {i} m h = omega (arith, m .same, ap (leading c) (no-rows pageWordsAt table (length table / 5) i h))
 
     module _ {i : ℕ} (m : InRun c first i) (h : i < length table / 5) {column : ℕ} (is : column ≡ pageWordsAt table i .column) where
       front : leading c (drop i (pageRowsIn table)) ≡ pick (eqb column c) (suc (leading c (drop (i + 1) (pageRowsIn table)))) 0
       unfolding leading
-      front = ap (leading c) (next-row i h) ∙ ap (λ (k : ℕ). pick (eqb k c) (suc (leading c (drop (i + 1) (pageRowsIn table)))) 0) (sym is)
+      front = ap (leading c) (next-row pageWordsAt table (length table / 5) i h) ∙ ap (λ (k : ℕ). pick (eqb k c) (suc (leading c (drop (i + 1) (pageRowsIn table)))) 0) (sym is)
 
       pub run-more : column ≡ c → InRun c first (i + 1)
       run-more e =

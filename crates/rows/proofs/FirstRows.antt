@@ -1,13 +1,14 @@
 -- The first rows of a table, one by one.
-use Prim.Native.Nat.{ℕ, zero, suc, _<_}
-use mathlib.Core.Path.{_≡_, refl, ap, _∙_}
+use Prim.Native.Nat.{ℕ, zero, suc, _+_, _<_, _≤_}
+use mathlib.Core.Path.{_≡_, refl, sym, ap, _∙_}
 use mathlib.Core.Bool.{Bool, true, false}
 use mathlib.Core.List.{List, [], _∷_, _++_}
+use native.Mathlib.Numerals.{add-one}
 use native.Mathlib.Omega.{arith}
 use borrow.Author.Tests.{ltb-true, ltb-false}
 use lib.Dec.{ltb}
-use lib.ListN.{length, getD, length-append, List·getD-append}
-use lib.Seq.{getD-at}
+use lib.ListN.{length, getD, drop, length-append, drop-of-length-le, List·getD-append}
+use lib.Seq.{getD-at, drop-cons}
 use Rattle.rows.specs.Tables.{firstRows}
 
 module _ {A : Type 0} (row : List ℕ → ℕ → A) (table : List ℕ) where
@@ -31,3 +32,13 @@ module _ {A : Type 0} (row : List ℕ → ℕ → A) (table : List ℕ) where
           let m = rows-length n in
           let same : n ≡ k = omega arith in
           getD-at (firstRows row table n) (row table n) [] d k (m ∙ same) ∙ ap (row table) same
+
+  -- the rows from row i on, where there are n
+
+  pub next-row : (n i : ℕ) → i < n → drop i (firstRows row table n) ≡ row table i ∷ drop (i + 1) (firstRows row table n)
+  next-row n i h =
+      let m = rows-length n in
+      drop-cons (firstRows row table n) i (row table i) (omega arith) ∙ (λ j. row-at n i (row table i) h j ∷ drop (sym (add-one i) j) (firstRows row table n))
+
+  pub no-rows : (n i : ℕ) → n ≤ i → drop i (firstRows row table n) ≡ []
+  no-rows n i h = let m = rows-length n in drop-of-length-le (firstRows row table n) {i = i} (omega arith)

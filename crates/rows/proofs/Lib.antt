@@ -1,3 +1,4 @@
 pub mod TableLaws
 pub mod RowLaws
 pub mod FirstRows
+pub mod FrontRows
