@@ -1,6 +1,6 @@
--- The reading of a payload beside a header: from its scan to the answer and the lent table.
+-- The verdict on a page list beside a header, from the scan of its payload.
 use Prim.Native.Nat.{ℕ, _*_, _/_, _≤_, _<_}
-use mathlib.Core.Path.{_≡_, sym, ap, _∙_}
+use mathlib.Core.Path.{_≡_, refl, sym, ap, _∙_}
 use mathlib.Core.Bool.{Bool, true}
 use mathlib.Core.List.{List, [], _∷_, map}
 use native.Mathlib.Omega.{arith}
@@ -31,14 +31,10 @@ use Rattle.column_pages.specs.Answers.{bitsIn, sumsOf}
 use Rattle.column_pages.specs.declared.Sums.{Sums}
 use Rattle.column_pages.proofs.ColumnLaws.{bits-length, count-passes}
 use Rattle.page_list.specs.PageList.{totalFault, totalsOf, summed}
-use Rattle.page_list.specs.Tables.{pageTable, answer, written, Answered}
 use Rattle.page_list.specs.Schema.{SchemaOf}
-use Rattle.page_list.specs.declared.PageListAnswer.the-variants.{Accepted, Refused}
-
--- a refusal changes no table
-pub beside-refused : {x : Beside (List (List PageRow))} {k : ℕ} {f : Fault} (p : List ℕ) → x ≡ refusal k f → Answered x p p (Refused k (f .number))
-unfolding answer written
-beside-refused p e = record { answers = rw e; reports = rw e; pagesAre = rw e }
+use Rattle.page_list.specs.Judged.{listed, Stands, Judges}
+use Rattle.page_list.specs.declared.Judged.{Judged}
+use Rattle.page_list.specs.declared.Verdict.the-variants.{Agreed, Refused}
 
 -- what a scan found, or what it refused
 record Scanned (x : Step (List (List PageRow))) (r : Sums) (k q : ℕ) : Type 0 where
@@ -68,15 +64,29 @@ scan-refused (refused h) {r} {f} is e =
     let same : h ≡ f = cc in
     ap (λ (x : Fault). refused x) same
 
-module _ (strict : Bool) (file : ℕ) (s parents flags table : List ℕ) (n : ℕ) (l : Lists) (o : SchemaOf l parents flags table n) where
-  same : whole strict (payload file (bitsOf (l .columns)) strict) s 4 ≡ whole strict (payload file (bitsIn table n) strict) s 4
-  same = ap (λ (bits : List ℕ). whole strict (payload file bits strict) s 4) (sym (o .bitsAre))
+-- the same payload by a header's lists
+same : (strict : Bool) (file : ℕ) (s parents flags table : List ℕ) (n : ℕ) (l : Lists) → SchemaOf l parents flags table n
+    → whole strict (payload file (bitsOf (l .columns)) strict) s 4 ≡ whole strict (payload file (bitsIn table n) strict) s 4
+same strict file s parents flags table n l o = ap (λ (bits : List ℕ). whole strict (payload file bits strict) s 4) (sym (o .bitsAre))
 
-  pub read-refused : (entries : ℕ) {r : Sums} {g : Fault} (p : List ℕ) → r ≡ sumsOf (whole strict (payload file (bitsIn table n) strict) s 4) → r .pages ≡ Missed g
-      → Answered (inEnvelope 3 (summed entries l (whole strict (payload file (bitsOf (l .columns)) strict) s 4))) p p (Refused 3 (g .number))
-  unfolding summed
-  read-refused entries p is e =
-      beside-refused p (ap (λ (x : Step (List (List PageRow))). inEnvelope 3 (summed entries l x)) (same ∙ scan-refused (whole strict (payload file (bitsIn table n) strict) s 4) is e))
+-- a verdict that refuses, and one that accepts
+
+pub judges-refused : {x : Step (List (List PageRow))} {f : Fault} (file : ℕ) (bits e : List ℕ) → x ≡ refused f → Judges file bits e x (Refused (f .number))
+unfolding Judges
+judges-refused file bits e w = rw w refl
+
+judges-agreed : {x : Step (List (List PageRow))} {pss : List (List PageRow)} {p : ℕ} (file : ℕ) (bits e : List ℕ) (j : Judged) → x ≡ found pss p → Stands file bits e j pss
+    → Judges file bits e x (Agreed j)
+unfolding Judges
+judges-agreed file bits e j w t = rw w t
+
+-- a payload that a scan refuses
+pub judged-refused : (strict : Bool) (file : ℕ) (s parents flags table : List ℕ) (n : ℕ) (l : Lists) → SchemaOf l parents flags table n → (entries : ℕ) {r : Sums} {g : Fault} (e : List ℕ)
+    → r ≡ sumsOf (whole strict (payload file (bitsIn table n) strict) s 4) → r .pages ≡ Missed g
+    → Judges file (bitsIn table n) e (summed entries l (whole strict (payload file (bitsOf (l .columns)) strict) s 4)) (Refused (g .number))
+unfolding summed
+judged-refused strict file s parents flags table n l o entries e is w =
+    judges-refused file (bitsIn table n) e (ap (summed entries l) (same strict file s parents flags table n l o ∙ scan-refused (whole strict (payload file (bitsIn table n) strict) s 4) is w))
 
 -- a payload that was found by a scan
 module _ (strict : Bool) (file : ℕ) (s table : List ℕ) (n : ℕ) {r : Sums} (is : r ≡ sumsOf (whole strict (payload file (bitsIn table n) strict) s 4)) {k q : ℕ} (e : r .pages ≡ Found k q) where
@@ -100,11 +110,6 @@ module _ (strict : Bool) (file : ℕ) (s table : List ℕ) (n : ℕ) {r : Sums} 
       let long = ap length (m .elements) ∙ over-length (map elementsOf (m .value)) (replicate mostColumns 0) (omega arith) in
       omega arith
 
-  -- it can be filled into a table with room
-  pub fill-ready : {words : ℕ} → k ≤ words / pageWidth
-      → (accepted (payload file (bitsIn table n) strict s 4) ≡ true) × (pageWidth * pagesOf (rowsOf (payload file (bitsIn table n) strict s 4)) ≤ words)
-  fill-ready h = let a = m .count in (rw (stood .was), rw (stood .was) (omega arith))
-
   sums-are : take n (r .elements) ≡ map elementsOf (m .value)
   sums-are = ap (take n) (m .elements) ∙ take-at (map elementsOf (m .value)) _ n (length-map (m .value) elementsOf ∙ passed .1)
 
@@ -116,31 +121,17 @@ module _ (strict : Bool) (file : ℕ) (s table : List ℕ) (n : ℕ) {r : Sums} 
     stands : whole strict (payload file (bitsOf (l .columns)) strict) s 4 ≡ found (m .value) q
     stands = same strict file s parents flags table n l o ∙ m .was
 
-    pub read-wrong : (p : List ℕ) {f : FieldNumber} → t ≡ Differ f
-        → Answered (inEnvelope 3 (summed entries l (whole strict (payload file (bitsOf (l .columns)) strict) s 4))) p p (Refused 3 19)
+    pub judged-wrong : {f : FieldNumber} (e′ : List ℕ) → t ≡ Differ f → Judges file (bitsIn table n) e′ (summed entries l (whole strict (payload file (bitsOf (l .columns)) strict) s 4)) (Refused 19)
     unfolding summed
-    read-wrong p {f} d = beside-refused {f = totalFault (f .0)} p (rw (stands, outcome, d))
+    judged-wrong {f} e′ d = judges-refused {f = totalFault (f .0)} file (bitsIn table n) e′ (rw (stands, outcome, d))
 
-    module _ (a : t ≡ Agree) where
-      right : inEnvelope 3 (summed entries l (whole strict (payload file (bitsOf (l .columns)) strict) s 4)) ≡ read (m .value)
-      unfolding summed
-      right = rw (stands, outcome, a)
-
-      pub read-short : (p : List ℕ) → length p / pageWidth < k
-          → Answered (inEnvelope 3 (summed entries l (whole strict (payload file (bitsOf (l .columns)) strict) s 4))) p p (Refused 3 20)
-      unfolding answer written
-      read-short p h =
-          let c = m .count in
-          let short = lt-leb (pagesOf (m .value)) (length p / pageWidth) (omega arith) in
-          record { answers = rw (right, short); reports = rw (right, short); pagesAre = rw (right, short) }
-
-      pub read-all : (p p′ : List ℕ) → k ≤ length p / pageWidth → p′ ≡ over (pageTable (rowsOf (payload file (bitsIn table n) strict s 4))) p
-          → Answered (inEnvelope 3 (summed entries l (whole strict (payload file (bitsOf (l .columns)) strict) s 4))) p p′ (Accepted k)
-      unfolding answer written
-      read-all p p′ h stored =
-          let c = m .count in
-          let room = le-leb (pagesOf (m .value)) (length p / pageWidth) (omega arith) in
-          record { answers = rw (right, room) (ap Accepted c); reports = rw (right, room) (ap (λ (x : ℕ). acceptedWith (x ∷ [])) c); pagesAre = rw (right, room) (rw (stood .was) at stored) }
+    pub judged-right : (stop : ℕ) (e′ : List ℕ) → s ≡ take stop e′ → t ≡ Agree
+        → Judges file (bitsIn table n) e′ (summed entries l (whole strict (payload file (bitsOf (l .columns)) strict) s 4)) (Agreed (record { stop = stop; strict = strict; pages = k }))
+    unfolding summed
+    judged-right stop e′ cut a =
+        let there : payload file (bitsIn table n) strict (take stop e′) 4 ≡ found (m .value) (stood .end) = ap (λ (x : List ℕ). payload file (bitsIn table n) strict x 4) (sym cut) ∙ stood .was in
+        judges-agreed {p = q} file (bitsIn table n) e′ (record { stop = stop; strict = strict; pages = k }) (rw (stands, outcome, a))
+        (record { stood = rw there; rowsAre = rw there; count = m .count })
 
 -- an envelope
 
@@ -148,6 +139,6 @@ pub envelope-open : (file : ℕ) (bits e : List ℕ) {v : Versions} {stop : ℕ}
 unfolding versioned
 envelope-open file bits e o = rw o
 
-pub envelope-refused : (file : ℕ) (bits e : List ℕ) (entries : ℕ) (l : Lists) {g : Fault} → opened 1 e ≡ refused g → inEnvelope 3 (summed entries l (envelope 1 (payload file bits) e)) ≡ refusal 3 g
+pub envelope-refused : (file : ℕ) (bits e bits′ : List ℕ) (entries : ℕ) (l : Lists) {g : Fault} → opened 1 e ≡ refused g → Judges file bits′ e (summed entries l (envelope 1 (payload file bits) e)) (Refused (g .number))
 unfolding versioned summed
-envelope-refused file bits e entries l o = rw o
+envelope-refused file bits e bits′ entries l {g} o = judges-refused {f = g} file bits′ e (rw o)
