@@ -1,0 +1,3 @@
+pub mod Adding
+pub mod Figures
+pub mod Accepted
