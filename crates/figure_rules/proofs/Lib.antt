@@ -1,3 +1,5 @@
 pub mod Adding
 pub mod Figures
 pub mod Accepted
+pub mod Placing
+pub mod Outcomes
