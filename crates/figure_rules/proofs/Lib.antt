@@ -3,3 +3,4 @@ pub mod Figures
 pub mod Accepted
 pub mod Placing
 pub mod Outcomes
+pub mod Samples
