@@ -1,5 +1,5 @@
 -- A report that is begun at zeros and gets up to 1,024 lists: it has the exact sums, the same in any order of the lists.
-use Prim.Native.Nat.{ℕ, _+_, _*_, _/_, _^_, _≤_, _<_}
+use Prim.Native.Nat.{ℕ, _+_, _*_, _^_, _≤_, _<_}
 use mathlib.Core.List.{List, [], _∷_}
 use mathlib.Core.Bool.{true}
 use mathlib.Core.Path.{_≡_}
@@ -89,7 +89,7 @@ AnyOrder =
     (header : List ℕ) (n : ℕ) (gs hs : List Given) → length gs ≤ mostLists → Reordered gs hs
     → inOrder header gs (fresh n) ≡ inOrder header hs (fresh n)
 
--- No figure passes 64 bits: each stays below 2 to the 55, and a list more, where one may come, is not refused for it.
+-- No figure passes 64 bits: each list adds at most 2 to the 45 to a word, so 1,024 lists at most 2 to the 55, and the figures of any list that was read fit.
 pub record Within (header : List ℕ) (n : ℕ) (gs : List Given) : Type 0 where
   pub small : (k : ℕ) → getD (inOrder header gs (fresh n) .words) k 0 ≤ length gs * 2 ^ 45
   pub fits : (g : Given) (pss : List (List PageRow)) → readBeside header g ≡ read pss → sumsFit (listFigures pss) (inOrder header gs (fresh n) .words) ≡ true
