@@ -47,7 +47,7 @@ pub record SmallList (columns : ℕ) (pss : List (List PageRow)) : Type 0 where
   pub many : length pss ≡ columns
   pub each : Each SmallColumn pss
 
-page-small : (file c bits : ℕ) (s : List ℕ) (at : ℕ) {x : PageRow} {p : ℕ} → page file c bits s at ≡ found x p → SmallPage x
+pub page-small : (file c bits : ℕ) (s : List ℕ) (at : ℕ) {x : PageRow} {p : ℕ} → page file c bits s at ≡ found x p → SmallPage x
 unfolding page
 page-small file c bits s at {x} =
     bound (λ x _. SmallPage x) (tested 4 pageWord) _ s at λ word p _.
