@@ -14,6 +14,7 @@ samples =
       first = refl;
       second = refl;
       refusedList = refl;
+      refusedHeader = refl;
       tooFewRows = refl;
       refusalFirst = refl;
       greatestFigure = refl;

@@ -4,7 +4,7 @@ use mathlib.Core.List.{List, [], _∷_, _++_}
 use mathlib.Core.Bool.{Bool, true, false}
 use mathlib.Core.Path.{_≡_}
 use lib.ListN.{replicate}
-use Rattle.wire.specs.declared.Kind.the-variants.{Total}
+use Rattle.wire.specs.declared.Kind.the-variants.{Number, Total}
 use Rattle.header.specs.Beside.{Beside, read, refusal}
 use Rattle.rows.specs.declared.PageRow.{PageRow}
 use Rattle.figure_rules.specs.declared.ListCounts.{ListCounts}
@@ -23,9 +23,12 @@ sampleList = (samplePage 0 5 true 20 ∷ samplePage 0 3 false 12 ∷ []) ∷ (sa
 abbrev pub sampleFigures : List ℕ
 sampleFigures = 2 ∷ 8 ∷ 32 ∷ 1 ∷ 1 ∷ 9 ∷ 2 ∷ 1 ∷ []
 
--- a list that its reader refuses 19
+-- a list that its reader refuses 19, and one whose header is refused 7
 abbrev pub sampleRefusal : Beside (List (List PageRow))
 sampleRefusal = refusal 3 (record { number = 19; place = 0; kind = Total; list = 0; item = 0 })
+
+abbrev pub headerRefusal : Beside (List (List PageRow))
+headerRefusal = refusal 1 (record { number = 7; place = 4; kind = Number; list = 0; item = 0 })
 
 abbrev pub counts : ℕ → ℕ → ListCounts
 counts accepted refused = record { accepted = accepted; refused = refused }
@@ -46,6 +49,7 @@ pub record Samples : Type 0 where
       ≡ leaves (Added (counts 2 4)) (4 ∷ 16 ∷ 64 ∷ 2 ∷ 2 ∷ 18 ∷ 4 ∷ 2 ∷ 5 ∷ 6 ∷ 7 ∷ 8 ∷ [])
   -- a refused list adds nothing and is counted apart
   pub refusedList : reported sampleRefusal (counts 1 4) (thirdWord 3) ≡ leaves (Refused 3 19 (counts 1 5)) (thirdWord 3)
+  pub refusedHeader : reported headerRefusal (counts 1 4) (thirdWord 3) ≡ leaves (Refused 1 7 (counts 1 5)) (thirdWord 3)
   -- seven words are one row: too few for two columns, whatever their figures
   pub tooFewRows : reported (read sampleList) (counts 1 4) (replicate 7 (2 ^ 64 - 1)) ≡ leaves (Refused 3 20 (counts 1 4)) (replicate 7 (2 ^ 64 - 1))
   -- the reader's refusal comes before the rows

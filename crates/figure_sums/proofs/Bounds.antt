@@ -24,34 +24,26 @@ zeros-most zero k = omega arith
 zeros-most (suc n) zero = omega arith
 zeros-most (suc n) (suc k) = zeros-most n k
 
--- the figures of a column
-
-elements-most : (ps : List PageRow) → Each SmallPage ps → elementsOf ps ≤ 2 ^ 30 * length ps
-unfolding elementsOf
-elements-most [] each = omega arith
-elements-most (p ∷ ps) each = let e = elements-most ps (each .1) in let few = each .0 .elementsFew in omega arith
-
-sizes-most : (ps : List PageRow) → Each SmallPage ps → sizesOf ps ≤ 2 ^ 31 * length ps
-unfolding sizesOf
-sizes-most [] each = omega arith
-sizes-most (p ∷ ps) each = let e = sizes-most ps (each .1) in let few = each .0 .sizeFew in omega arith
+-- a sum over the pages of a column
+sum-most : (f : PageRow → ℕ) (sum : List PageRow → ℕ) → sum [] ≡ 0 → ((p : PageRow) (ps : List PageRow) → sum (p ∷ ps) ≡ f p + sum ps)
+    → ((p : PageRow) → SmallPage p → f p ≤ 2 ^ 31) → (ps : List PageRow) → SmallColumn ps → sum ps ≤ 2 ^ 45
+sum-most f sum none one small ps column = let few = column .few in omega (arith, by ps (column .each))
+  where
+    by : (ps : List PageRow) → Each SmallPage ps → sum ps ≤ 2 ^ 31 * length ps
+    by [] each = omega (arith, none)
+    by (p ∷ ps) each = omega (arith, one p ps, small p (each .0), by ps (each .1))
 
 bit-most : (b : Bool) → bit b ≤ 1
 bit-most true = omega arith
 bit-most false = omega arith
 
-checked-most : (ps : List PageRow) → checkedOf ps ≤ length ps
-unfolding checkedOf
-checked-most [] = omega arith
-checked-most (p ∷ ps) = let e = checked-most ps in let b = bit-most (p .checksum) in omega arith
-
 pub figures-most : (pss : List (List PageRow)) → Each SmallColumn pss → AtMost (2 ^ 45) (listFigures pss)
-unfolding flat
+unfolding flat elementsOf sizesOf checkedOf
 figures-most [] each k = omega arith
 figures-most (ps ∷ pss) each zero = let few = each .0 .few in omega arith
-figures-most (ps ∷ pss) each (suc zero) = let few = each .0 .few in let e = elements-most ps (each .0 .each) in omega arith
-figures-most (ps ∷ pss) each (suc (suc zero)) = let few = each .0 .few in let e = sizes-most ps (each .0 .each) in omega arith
-figures-most (ps ∷ pss) each (suc (suc (suc zero))) = let few = each .0 .few in let e = checked-most ps in omega arith
+figures-most (ps ∷ pss) each (suc zero) = sum-most (λ p. p .elements) elementsOf refl (λ p ps. refl) (λ p small. omega (arith, small .elementsFew)) ps (each .0)
+figures-most (ps ∷ pss) each (suc (suc zero)) = sum-most (λ p. p .size) sizesOf refl (λ p ps. refl) (λ p small. omega (arith, small .sizeFew)) ps (each .0)
+figures-most (ps ∷ pss) each (suc (suc (suc zero))) = sum-most (λ p. bit (p .checksum)) checkedOf refl (λ p ps. refl) (λ p small. omega (arith, bit-most (p .checksum))) ps (each .0)
 figures-most (ps ∷ pss) each (suc (suc (suc (suc k)))) = figures-most pss (each .1) k
 
 -- sums

@@ -13,7 +13,7 @@ use Rattle.rows.specs.declared.PageRow.{PageRow}
 use Rattle.figure_rules.specs.Report.{Report, figureWidth, listFigures, added, sumsFit, rowsFor, placed, taken, mostLists}
 use Rattle.figure_rules.proofs.Accepted.{SmallList, read-beside}
 use Rattle.figure_rules.proofs.Adding.{added-length, added-at}
-use Rattle.figure_rules.proofs.Placing.{placed-short, placed-added, reported-taken}
+use Rattle.figure_rules.proofs.Tests.{placed-short, placed-added, reported-taken}
 use Rattle.figure_sums.specs.Orders.{Given, readBeside, State, fresh, countsIn, after, inOrder, shareOf, acceptedBy, refusedBy, total, ExactSums}
 use Rattle.figure_sums.proofs.Bounds.{AtMost, zeros-most, figures-most, sums-fit, added-most}
 
@@ -116,7 +116,7 @@ sums-from header n (g ∷ gs) st o h =
     })
 
 pub fresh-open : (n : ℕ) → Open n (fresh n)
-fresh-open n = record { long = length-replicate {A = ℕ} n 0; bounded = λ k. omega (arith, zeros-most n k) }
+fresh-open n = record { long = length-replicate {A = ℕ} n _; bounded = λ k. omega (arith, zeros-most n k) }
 
 pub exact-sums : ExactSums
 unfolding ExactSums
