@@ -26,7 +26,7 @@ length-reordered (again r s) = length-reordered r ∙ length-reordered s
 pub any-order : AnyOrder
 unfolding AnyOrder ExactSums
 any-order header n gs hs h r =
-    let a = exact-sums header n gs h in
+    let a = exact-sums header n gs (omega arith) in
     let b = exact-sums header n hs (omega (arith, length-reordered r)) in
     let words = ext-getD 0 (inOrder header gs (fresh n) .words) (inOrder header hs (fresh n) .words) (a .long ∙ sym (b .long)) (λ k l.
     let m : k < n = omega (arith, a .long) in

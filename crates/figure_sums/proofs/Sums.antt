@@ -10,11 +10,12 @@ use lib.ListN.{length, getD, length-replicate, getD-replicate}
 use Rattle.numbers.specs.Choice.{pick}
 use Rattle.header.specs.Beside.{Beside, read, refusal}
 use Rattle.rows.specs.declared.PageRow.{PageRow}
-use Rattle.figure_rules.specs.Report.{Report, figureWidth, listFigures, added, sumsFit, rowsFor, placed, taken, mostLists}
+use Rattle.figure_rules.specs.declared.ReportAnswer.the-variants.{Added}
+use Rattle.figure_rules.specs.Report.{figureWidth, listFigures, added, sumsFit, rowsFor, Report, notCounted, oneAccepted, placed, taken, mostLists, reported}
 use Rattle.figure_rules.proofs.Accepted.{SmallList, read-beside}
 use Rattle.figure_rules.proofs.Adding.{added-length, added-at}
 use Rattle.figure_rules.proofs.Tests.{placed-short, placed-added, reported-taken}
-use Rattle.figure_sums.specs.Orders.{Given, readBeside, State, fresh, countsIn, after, inOrder, shareOf, acceptedBy, refusedBy, total, ExactSums}
+use Rattle.figure_sums.specs.Orders.{Given, readBeside, State, fresh, countsIn, inOrder, shareOf, acceptedBy, refusedBy, total, ExactSums}
 use Rattle.figure_sums.proofs.Bounds.{AtMost, zeros-most, figures-most, sums-fit, added-most}
 
 -- a state of a report of n words, with no word above what so many lists can have
@@ -38,47 +39,50 @@ grown n x st =
 pub list-fits : (n : ℕ) (st : State) → Open n st → st .counts .accepted ≤ mostLists → (columns : ℕ) (pss : List (List PageRow)) → SmallList columns pss → sumsFit (listFigures pss) (st .words) ≡ true
 list-fits n st o few columns pss small = sums-fit (listFigures pss) (st .words) (2 ^ 45) (st .counts .accepted * 2 ^ 45) (figures-most pss (small .each)) (o .bounded) (omega arith)
 
-module _ (n : ℕ) (st : State) (o : Open n st) (more : st .counts .accepted + st .counts .refused < mostLists) where
-  read-grown : (columns : ℕ) (pss : List (List PageRow)) → SmallList columns pss → (left (placed (length pss) (listFigures pss) (st .counts) (st .words)) ≡ grown n (read pss) st) × Open n (grown n (read pss) st)
-  unfolding added shareOf acceptedBy refusedBy
-  read-grown columns pss small = by (rowsFor n (length pss)) refl
-    where
-      grownBy : Bool → State
-      grownBy b =
-          record {
-            counts = record { accepted = st .counts .accepted + pick b 1 0; refused = st .counts .refused + 0 };
-            words = added (pick b (listFigures pss) []) (st .words);
-          }
+module _ (n : ℕ) (st : State) (o : Open n st) where
+  -- a call that leaves the state with what a list adds
+  abbrev Grows : Beside (List (List PageRow)) → Report → Type 0
+  Grows x r = (left r ≡ grown n x st) × Open n (grown n x st)
 
-      by : (b : Bool) → rowsFor n (length pss) ≡ b → (left (placed (length pss) (listFigures pss) (st .counts) (st .words)) ≡ grownBy b) × Open n (grownBy b)
-      by true e =
-          let long = o .long in
-          let z : st .counts .refused ≡ st .counts .refused + 0 = omega arith in
-          let placed-is = placed-added (length pss) (listFigures pss) (st .counts) (st .words) (omega (arith, leb-true (length pss) (n / figureWidth) e)) (list-fits n st o (omega arith) columns pss small) in (
-            ap left placed-is ∙ (λ j. record { counts = record { accepted = st .counts .accepted + 1; refused = z j }; words = added (listFigures pss) (st .words) }),
-            record {
-              long = added-length (listFigures pss) (st .words) ∙ long;
-              bounded = λ k. omega (arith, added-most (listFigures pss) (st .words) (2 ^ 45) (st .counts .accepted * 2 ^ 45) (figures-most pss (small .each)) (o .bounded) k);
-            },
-          )
-      by false e =
-          let long = o .long in
-          let z : st .counts .refused ≡ st .counts .refused + 0 = omega arith in
-          let a : st .counts .accepted ≡ st .counts .accepted + 0 = omega arith in
-          let placed-is = placed-short (length pss) (listFigures pss) (st .counts) (st .words) (omega (arith, leb-false (length pss) (n / figureWidth) e)) in
-          (ap left placed-is ∙ (λ j. record { counts = record { accepted = a j; refused = z j }; words = st .words }), record { long = long; bounded = λ k. omega (arith, o .bounded k) })
+  grows : (x : Beside (List (List PageRow))) (r : Report) → AtMost (acceptedBy n x * 2 ^ 45) (shareOf n x)
+      → countsIn (r .answer) .accepted ≡ st .counts .accepted + acceptedBy n x → countsIn (r .answer) .refused ≡ st .counts .refused + refusedBy x
+      → r .words ≡ added (shareOf n x) (st .words) → Grows x r
+  grows x r most accepted refused words = (
+    (λ j. record { counts = record { accepted = accepted j; refused = refused j }; words = words j }),
+    record {
+      long = added-length (shareOf n x) (st .words) ∙ o .long;
+      bounded = λ k. omega (arith, added-most (shareOf n x) (st .words) (acceptedBy n x * 2 ^ 45) (st .counts .accepted * 2 ^ 45) most (o .bounded) k);
+    },
+  )
 
-  taken-grown : (header : List ℕ) (g : Given) (x : Beside (List (List PageRow))) → readBeside header g ≡ x → (left (taken x (st .counts) (st .words)) ≡ grown n x st) × Open n (grown n x st)
-  unfolding added shareOf acceptedBy refusedBy taken
-  taken-grown header g (read pss) e = let r = read-beside header (g .list) (g .entries) (g .file) pss e in read-grown _ pss (r .small)
-  taken-grown header g (refusal k f) e =
-      let a : st .counts .accepted ≡ st .counts .accepted + 0 = omega arith in
-      ((λ j. record { counts = record { accepted = a j; refused = st .counts .refused + 1 }; words = st .words }), record { long = o .long; bounded = λ k. omega (arith, o .bounded k) })
+  module _ (more : st .counts .accepted + st .counts .refused < mostLists) where
+    placed-grows : (columns : ℕ) (pss : List (List PageRow)) → SmallList columns pss → Grows (read pss) (placed (length pss) (listFigures pss) (st .counts) (st .words))
+    unfolding added shareOf acceptedBy refusedBy
+    placed-grows columns pss small = by (rowsFor n (length pss)) refl
+      where
+        by : (b : Bool) → rowsFor n (length pss) ≡ b → Grows (read pss) (placed (length pss) (listFigures pss) (st .counts) (st .words))
+        by true e =
+            let long = o .long in
+            let one : acceptedBy n (read pss) ≡ 1 = rw e refl in
+            let share : shareOf n (read pss) ≡ listFigures pss = rw e in
+            subst (Grows (read pss)) (sym (placed-added (length pss) (listFigures pss) (st .counts) (st .words) (omega (arith, leb-true (length pss) (n / figureWidth) e)) (list-fits n st o (omega arith) columns pss small)))
+            (grows (read pss) (record { answer = Added (oneAccepted (st .counts)); words = added (listFigures pss) (st .words) })
+            (λ k. omega (arith, one, ap (λ (l : List ℕ). getD l k 0) share, figures-most pss (small .each) k)) (omega (arith, one)) (omega arith) (ap (λ (l : List ℕ). added l (st .words)) (sym share)))
+        by false e =
+            let long = o .long in
+            let none : acceptedBy n (read pss) ≡ 0 = rw e refl in
+            let share : shareOf n (read pss) ≡ [] = rw e in
+            subst (Grows (read pss)) (sym (placed-short (length pss) (listFigures pss) (st .counts) (st .words) (omega (arith, leb-false (length pss) (n / figureWidth) e))))
+            (grows (read pss) (notCounted 20 (st .counts) (st .words))
+            (λ k. omega (arith, none, ap (λ (l : List ℕ). getD l k 0) share)) (omega (arith, none)) (omega arith) (ap (λ (l : List ℕ). added l (st .words)) (sym share)))
 
-  pub after-grown : (header : List ℕ) (g : Given) → (after header g st ≡ grown n (readBeside header g) st) × Open n (grown n (readBeside header g) st)
-  after-grown header g =
-      let t = taken-grown header g (readBeside header g) refl in
-      (ap left (reported-taken (readBeside header g) (st .counts) (st .words) more) ∙ t .0, t .1)
+    taken-grows : (header : List ℕ) (g : Given) (x : Beside (List (List PageRow))) → readBeside header g ≡ x → Grows x (taken x (st .counts) (st .words))
+    unfolding added shareOf acceptedBy refusedBy taken
+    taken-grows header g (read pss) e = let r = read-beside header (g .list) (g .entries) (g .file) pss e in placed-grows _ pss (r .small)
+    taken-grows header g (refusal k f) e = grows (refusal k f) (taken (refusal k f) (st .counts) (st .words)) (λ k. omega arith) (omega arith) (omega arith) refl
+
+    pub after-grows : (header : List ℕ) (g : Given) → Grows (readBeside header g) (reported (readBeside header g) (st .counts) (st .words))
+    after-grows header g = subst (Grows (readBeside header g)) (sym (reported-taken (readBeside header g) (st .counts) (st .words) more)) (taken-grows header g (readBeside header g) refl)
 
 -- a list is counted at most once
 one-each : (n : ℕ) (x : Beside (List (List PageRow))) → acceptedBy n x + refusedBy x ≤ 1
@@ -104,7 +108,7 @@ sums-from header n [] st o h = record { within = o; counted = omega arith; figur
 sums-from header n (g ∷ gs) st o h =
     let x : Beside (List (List PageRow)) = readBeside header g in
     let one = one-each n x in
-    let (same, opened) = after-grown n st o (omega arith) header g in
+    let (same, opened) = after-grows n st o (omega arith) header g in
     let i = sums-from header n gs (grown n x st) opened (omega arith) in
     subst (λ (s : State). SumsFrom header n (g ∷ gs) st (inOrder header gs s)) (sym same)
     (record {
