@@ -8,6 +8,10 @@ use crate::reference::figures::{Counts, LISTS, ROW_WORDS};
 use crate::reference::pages::ELEMENTS;
 use crate::writer::{Header, PageList};
 
+/// So many reports, the first of a period, have as many lists as they take and
+/// more; the large page lists come next.
+const FULL_REPORTS: u64 = 4;
+
 /// A page list that is handed to a report.
 #[derive(Clone)]
 pub struct HandedList {
@@ -112,7 +116,7 @@ fn any(random: &mut Random, place: u64) -> Draft {
         header = models::header(random);
     }
     let count = match (place, random.below(64)) {
-        (0..=3, _) => LISTS as usize + 2,
+        (0..FULL_REPORTS, _) => LISTS as usize + 2,
         (_, 0) => 6 + random.index(30),
         (_, 1..=20) => 1,
         _ => 2 + random.index(4),
@@ -135,7 +139,7 @@ fn any(random: &mut Random, place: u64) -> Draft {
 
 /// The large page lists, each of them more than once.
 fn edge(random: &mut Random, place: u64) -> Option<Draft> {
-    let (header, list, entries, file_length) = edges::page_list(random, place.checked_sub(8)?)?;
+    let (header, list, entries, file_length) = edges::page_list(random, place.checked_sub(FULL_REPORTS)?)?;
     Some(Draft {
         header,
         lists: vec![(list, entries, file_length); 2],
@@ -200,7 +204,8 @@ impl Generator {
     pub fn report_case(&mut self) -> ReportCase {
         let edge = edge(&mut self.random, self.place);
         let draft = edge.unwrap_or_else(|| any(&mut self.random, self.place));
-        let spoilt_header = draft.whole && self.place > 3 && self.random.one_in(16);
+        let full = self.place < FULL_REPORTS;
+        let spoilt_header = draft.whole && !full && self.random.one_in(16);
         let header = self.header_bytes(&draft.header, spoilt_header);
         // No list is damaged, some are, or most.
         let damaged = self.random.pick(&[0, 0, 1, 2, 3, 6]);
@@ -209,7 +214,7 @@ impl Generator {
             let spoilt = draft.whole && self.random.below(8) < damaged;
             lists.push(self.handed(model, spoilt));
         }
-        if self.place > 3 {
+        if !full {
             self.choose_counts(&mut lists);
         }
         let random = &mut self.random;
