@@ -1,0 +1,3 @@
+pub mod ShownLaws
+pub mod NumeralLaws
+pub mod RowLaws
