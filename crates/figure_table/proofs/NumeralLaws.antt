@@ -40,10 +40,10 @@ pub record Reading (text : List ℕ) (n i : ℕ) : Type 0 where
   pub most : i ≤ length text
   pub is : numeral text ≡ withDigits (Number n) (drop i text)
 
-pub no-digits : (text : List ℕ) → length text ≤ 0 → None ≡ numeral text
+pub numeral-none : (text : List ℕ) → length text ≤ 0 → None ≡ numeral text
 unfolding numeral
-no-digits [] l = refl
-no-digits (byte ∷ rest) l = absurd (omega arith)
+numeral-none [] l = refl
+numeral-none (byte ∷ rest) l = absurd (omega arith)
 
 pub reading-start : (text : List ℕ) → 1 ≤ length text → Reading text 0 0
 unfolding numeral

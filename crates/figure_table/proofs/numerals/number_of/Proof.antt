@@ -3,7 +3,7 @@ use Prim.Native.Nat.{_-_}
 use native.Mathlib.Omega.{arith}
 use lib.ListN.{length}
 use borrow.Author.Needs.{needs}
-use Rattle.figure_table.proofs.NumeralLaws.{Reading, reading-start, reading-more, reading-none, reading-end, no-digits}
+use Rattle.figure_table.proofs.NumeralLaws.{Reading, reading-start, reading-more, reading-none, reading-end, numeral-none}
 use Rattle.figure_table.proofs.numerals.number_of.Statement.{statement}
 use Rattle.figure_table.proofs.numerals.number_of.Tie as tie
 
@@ -14,7 +14,7 @@ abbrev μ-loop : tie.MeasureT-loop
 μ-loop text n₀ i₀ n i = length text - i
 
 returns : tie.Need-returns Inv-loop μ-loop
-returns c = no-digits _ (omega arith)
+returns c = numeral-none _ (omega arith)
 
 loop-holds : tie.Need-loop-holds Inv-loop μ-loop
 loop-holds c = reading-start _ (omega arith)
