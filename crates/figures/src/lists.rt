@@ -3,13 +3,14 @@ use crate::FIRST_LIST;
 use crate::LIST_ARGUMENTS;
 use crate::input;
 use crate::table;
+use figure_rules::FIGURE_WORDS;
 use figure_table::Numeral;
 
 // As many as a report takes.
-pub const MOST_LISTS: usize = 1024;
+pub const MOST_LISTS: usize = figure_rules::MOST_LISTS as usize;
 
 // The words of a report that has a row for each column that there can be.
-const REPORT_WORDS: usize = 4 * rows::MOST_COLUMNS;
+const REPORT_WORDS: usize = FIGURE_WORDS * rows::MOST_COLUMNS;
 
 // No answer of the call, which has the room for its result: a file cannot be read, or a number is none.
 const UNREAD: u32 = 4294967295;

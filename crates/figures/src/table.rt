@@ -1,11 +1,9 @@
 // What is printed: a line for each column, the counts of lists, and the lists that were refused.
+use figure_rules::FIGURE_WORDS;
 use figure_table::FigureRow;
 use header::HeaderAnswer;
 use libc::STDOUT_FILENO;
 use rows::ColumnNumber;
-
-// The words of a report's row.
-const FIGURE_WORDS: usize = 4;
 
 // The lines of all columns, with their heading; nothing for a header that is refused. The header's bytes are made as they print.
 pub fn print(header: &mut [u8], words: &[u64]) {
