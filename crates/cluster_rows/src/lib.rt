@@ -94,7 +94,7 @@ pub fn put_page(table: &mut [u64], i: usize, row: PageRow)
 }
 
 // The word of a mark.
-fn bit(b: bool) -> u64
+pub fn bit(b: bool) -> u64
     ensures { λ r. ⌜ r ≡ bit b ⌝ }
 {
     if b {

@@ -64,7 +64,7 @@ column-small strict file c bits sum s at e =
       each = list-each (λ _. SmallPage) strict (runningTotal sum) (λ _ _. page file c bits) s at (λ _ _ stop from x p. page-small file c bits (take stop s) from) e;
     }
 
-payload-small : (strict : Bool) (file : ℕ) (bits : List ℕ) (s : List ℕ) (at : ℕ) {pss : List (List PageRow)} {p : ℕ} → payload file bits strict s at ≡ found pss p → SmallList (length bits) pss
+pub payload-small : (strict : Bool) (file : ℕ) (bits : List ℕ) (s : List ℕ) (at : ℕ) {pss : List (List PageRow)} {p : ℕ} → payload file bits strict s at ≡ found pss p → SmallList (length bits) pss
 unfolding payload
 payload-small strict file bits s at {pss} e =
     let (few, many) = count-passes (length bits) (length pss) (list-passed strict (perColumn (length bits)) (λ _. pagesAfter strict file bits) s at e) in

@@ -1,6 +1,6 @@
 // What a report over page lists answers. Its rule is in specs/.
 
-// How many lists a report has taken, and how many their reader has refused.
+// How many lists of a report were accepted, and how many their reader has refused.
 pub struct ListCounts {
     pub accepted: u64,
     pub refused: u64,

@@ -116,6 +116,15 @@ module _ {A : Type 0} (mark : Fault → Fault) (strict : Bool) (stop : ℕ) wher
       by false h = (refl, refl)
   closed-accepted (refused f) a = clash a refl
 
+-- a frame that is accepted ends where its size says
+pub closed-ends : {A : Type 0} (mark : Fault → Fault) (strict : Bool) (stop : ℕ) (x : Step (List A)) → accepted (closedBy mark strict stop x) ≡ true → closedBy mark strict stop x ≡ found (rowsOf x) stop
+closed-ends {A} mark strict stop (found a p) h = by (spare strict p stop) h
+  where
+    by : (b : Bool) → accepted (pick b (refused (mark (fault 11 Spare p))) (found a stop)) ≡ true → pick {A = Step (List A)} b (refused (mark (fault 11 Spare p))) (found a stop) ≡ found a stop
+    by true g = clash g refl
+    by false g = refl
+closed-ends mark strict stop (refused f) h = clash h refl
+
 -- a list frame whose head was read: what an accepted list has to do with its items
 module _ {A : Type 0} (strict : Bool) (verdict : ℕ → ℕ) (r : ℕ → List A → Rule A) (s : List ℕ) (at : ℕ) {h : ListHead} {stop : ℕ} (head : listHead verdict s at ≡ found h stop) where
   pub list-is : listOf strict verdict r s at ≡ closedBy (inItem at (h .count)) strict stop (items at (r (h .count)) (h .count) [] (take stop s) (h .start))

@@ -6,14 +6,12 @@ use mathlib.Core.List.{List, [], _∷_}
 use native.Mathlib.Omega.{arith}
 use borrow.Author.Tests.{leb-true}
 use lib.ListN.{length, take}
-use Rattle.numbers.specs.Choice.{pick}
 use Rattle.numbers.specs.Rows.{flat, over, put}
 use Rattle.wire.specs.declared.Fault.{Fault}
-use Rattle.wire.specs.declared.Kind.the-variants.{Spare}
-use Rattle.wire.specs.Reading.{Step, found, refused, fault, accepted, rowsOf, inItem}
-use Rattle.frames.specs.Frames.{spare, closedBy, items, listHead, listOf}
+use Rattle.wire.specs.Reading.{found, refused, accepted, rowsOf, inItem}
+use Rattle.frames.specs.Frames.{items, listHead, listOf}
 use Rattle.frames.specs.declared.ListHead.{ListHead}
-use Rattle.frames.proofs.Loops.{Reached, reached-none, reached-more, filled-all, list-is, list-accepted, list-rows, list-count}
+use Rattle.frames.proofs.Loops.{closed-ends, Reached, reached-none, reached-more, filled-all, list-is, list-accepted, list-rows, list-count}
 use Rattle.rows.specs.Words.{mostPages}
 use Rattle.rows.specs.Tables.{columnRow}
 use Rattle.rows.specs.declared.ColumnRow.{ColumnRow}
@@ -26,15 +24,6 @@ use Rattle.column_pages.specs.Answers.{bitsIn}
 use Rattle.column_pages.proofs.ScanLaws.{pages-snoc, next-rule}
 use Rattle.page_list.proofs.FillLaws.{next-pages}
 use Rattle.figure_rules.specs.Report.{figureWidth, figuresOf, listFigures}
-
--- a frame that is accepted ends where its size says
-closed-ends : {A : Type 0} (mark : Fault → Fault) (strict : Bool) (stop : ℕ) (x : Step (List A)) → accepted (closedBy mark strict stop x) ≡ true → closedBy mark strict stop x ≡ found (rowsOf x) stop
-closed-ends {A} mark strict stop (found a p) h = by (spare strict p stop) h
-  where
-    by : (b : Bool) → accepted (pick b (refused (mark (fault 11 Spare p))) (found a stop)) ≡ true → pick {A = Step (List A)} b (refused (mark (fault 11 Spare p))) (found a stop) ≡ found a stop
-    by true g = absurd (omega (arith, leb-true 1 0 g))
-    by false g = refl
-closed-ends mark strict stop (refused f) h = absurd (omega (arith, leb-true 1 0 h))
 
 -- i columns of the n of a list have been read, with so many pages in all, and `table` has their figures in front of what it held
 pub record Written (strict : Bool) (file : ℕ) (columns : List ℕ) (list n : ℕ) (s : List ℕ) (start i at total : ℕ) (old table : List ℕ) : Type 0 where

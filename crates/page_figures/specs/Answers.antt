@@ -5,6 +5,7 @@ use mathlib.Core.Path.{_≡_}
 use lib.ListN.{length}
 use Rattle.numbers.specs.Choice.{pick}
 use Rattle.numbers.specs.Rows.{over}
+use Rattle.outcome.specs.Outcome.{Outcome, acceptedWith, refusedIn}
 use Rattle.header.specs.Beside.{Beside, read, refusal}
 use Rattle.rows.specs.declared.PageRow.{PageRow}
 use Rattle.figure_rules.specs.Report.{listFigures, rowsFor}
@@ -15,6 +16,11 @@ use Rattle.page_figures.specs.declared.FiguresAnswer.the-variants.{Summe
 -- the words of a row
 abbrev pub figureWords : Figures → List ℕ
 figureWords f = f .pages ∷ f .elements ∷ f .sizes ∷ f .checked ∷ []
+
+-- the answer in document 01's terms: the envelope and the number of a refusal, and the count of columns
+abbrev pub outcomeOf : FiguresAnswer → Outcome
+outcomeOf (Summed columns) = acceptedWith (columns ∷ [])
+outcomeOf (Refused k r) = refusedIn k r 1
 
 -- the whole answer, for lent rows of n words: the reader's refusals, but room is that of the rows
 unfoldable pub answer : ℕ → Beside (List (List PageRow)) → FiguresAnswer
@@ -29,4 +35,5 @@ written old (refusal k f) = old
 -- all that a call leaves, for a page list read beside its header and lent rows
 pub record Answered (x : Beside (List (List PageRow))) (f₀ f : List ℕ) (r : FiguresAnswer) : Type 0 where
   pub answers : r ≡ answer (length f₀) x
+  pub reports : outcomeOf r ≡ outcomeOf (answer (length f₀) x)
   pub figuresAre : f ≡ written f₀ x

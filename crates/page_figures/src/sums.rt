@@ -10,7 +10,7 @@ ghost use Prim.Native.Nat.{_*_, _≤_};
 ghost use lib.ListN.{length};
 ghost use Rattle.numbers.specs.Rows.{over};
 ghost use Rattle.wire.specs.Reading.{accepted, rowsOf};
-ghost use Rattle.rows.specs.Words.{bit, mostPages, mostColumns};
+ghost use Rattle.rows.specs.Words.{mostPages, mostColumns};
 ghost use Rattle.pages.specs.Pages.{pageItems};
 ghost use Rattle.column_pages.specs.ColumnPages.{payload};
 ghost use Rattle.column_pages.specs.Answers.{bitsIn, columnItems};
@@ -27,16 +27,6 @@ fn no_figures() -> Figures
         sizes: 0,
         checked: 0,
     }
-}
-
-// The word of a mark.
-fn bit(b: bool) -> u64
-    ensures { λ r. ⌜ r ≡ bit b ⌝ }
-{
-    if b {
-        return 1;
-    }
-    0
 }
 
 // The figures of the pages of a list at `list`, whose head was read. They were accepted, so that none is refused here.
@@ -62,7 +52,7 @@ fn sum_pages(
             PageStep::Found(row, next) => {
                 elements += row.elements;
                 sizes += row.size;
-                checked += bit(row.checksum);
+                checked += cluster_rows::bit(row.checksum);
                 at = next;
                 i += 1;
             }

@@ -71,22 +71,21 @@ same strict file s parents flags table n l o = ap (λ (bits : List ℕ). whole s
 
 -- a verdict that refuses, and one that accepts
 
-pub judges-refused : {x : Step (List (List PageRow))} {f : Fault} (file : ℕ) (bits e : List ℕ) → x ≡ refused f → Judges file bits e x (Refused (f .number))
+pub judges-refused : {x : Beside (List (List PageRow))} {k : ℕ} {f : Fault} (file : ℕ) (bits e : List ℕ) → x ≡ refusal k f → Judges file bits e x (Refused k (f .number))
 unfolding Judges
-judges-refused file bits e w = rw w refl
+judges-refused file bits e w = rw w (refl, refl)
 
-judges-agreed : {x : Step (List (List PageRow))} {pss : List (List PageRow)} {p : ℕ} (file : ℕ) (bits e : List ℕ) (j : Judged) → x ≡ found pss p → Stands file bits e j pss
-    → Judges file bits e x (Agreed j)
+judges-agreed : {x : Beside (List (List PageRow))} {pss : List (List PageRow)} (file : ℕ) (bits e : List ℕ) (j : Judged) → x ≡ read pss → Stands file bits e j pss → Judges file bits e x (Agreed j)
 unfolding Judges
 judges-agreed file bits e j w t = rw w t
 
 -- a payload that a scan refuses
 pub judged-refused : (strict : Bool) (file : ℕ) (s parents flags table : List ℕ) (n : ℕ) (l : Lists) → SchemaOf l parents flags table n → (entries : ℕ) {r : Sums} {g : Fault} (e : List ℕ)
     → r ≡ sumsOf (whole strict (payload file (bitsIn table n) strict) s 4) → r .pages ≡ Missed g
-    → Judges file (bitsIn table n) e (summed entries l (whole strict (payload file (bitsOf (l .columns)) strict) s 4)) (Refused (g .number))
+    → Judges file (bitsIn table n) e (inEnvelope 3 (summed entries l (whole strict (payload file (bitsOf (l .columns)) strict) s 4))) (Refused 3 (g .number))
 unfolding summed
 judged-refused strict file s parents flags table n l o entries e is w =
-    judges-refused file (bitsIn table n) e (ap (summed entries l) (same strict file s parents flags table n l o ∙ scan-refused (whole strict (payload file (bitsIn table n) strict) s 4) is w))
+    judges-refused file (bitsIn table n) e (ap (λ (x : Step (List (List PageRow))). inEnvelope 3 (summed entries l x)) (same strict file s parents flags table n l o ∙ scan-refused (whole strict (payload file (bitsIn table n) strict) s 4) is w))
 
 -- a payload that was found by a scan
 module _ (strict : Bool) (file : ℕ) (s table : List ℕ) (n : ℕ) {r : Sums} (is : r ≡ sumsOf (whole strict (payload file (bitsIn table n) strict) s 4)) {k q : ℕ} (e : r .pages ≡ Found k q) where
@@ -121,16 +120,16 @@ module _ (strict : Bool) (file : ℕ) (s table : List ℕ) (n : ℕ) {r : Sums} 
     stands : whole strict (payload file (bitsOf (l .columns)) strict) s 4 ≡ found (m .value) q
     stands = same strict file s parents flags table n l o ∙ m .was
 
-    pub judged-wrong : {f : FieldNumber} (e′ : List ℕ) → t ≡ Differ f → Judges file (bitsIn table n) e′ (summed entries l (whole strict (payload file (bitsOf (l .columns)) strict) s 4)) (Refused 19)
+    pub judged-wrong : {f : FieldNumber} (e′ : List ℕ) → t ≡ Differ f → Judges file (bitsIn table n) e′ (inEnvelope 3 (summed entries l (whole strict (payload file (bitsOf (l .columns)) strict) s 4))) (Refused 3 19)
     unfolding summed
     judged-wrong {f} e′ d = judges-refused {f = totalFault (f .0)} file (bitsIn table n) e′ (rw (stands, outcome, d))
 
     pub judged-right : (stop : ℕ) (e′ : List ℕ) → s ≡ take stop e′ → t ≡ Agree
-        → Judges file (bitsIn table n) e′ (summed entries l (whole strict (payload file (bitsOf (l .columns)) strict) s 4)) (Agreed (record { stop = stop; strict = strict; pages = k }))
+        → Judges file (bitsIn table n) e′ (inEnvelope 3 (summed entries l (whole strict (payload file (bitsOf (l .columns)) strict) s 4))) (Agreed (record { stop = stop; strict = strict; pages = k }))
     unfolding summed
     judged-right stop e′ cut a =
         let there : payload file (bitsIn table n) strict (take stop e′) 4 ≡ found (m .value) (stood .end) = ap (λ (x : List ℕ). payload file (bitsIn table n) strict x 4) (sym cut) ∙ stood .was in
-        judges-agreed {p = q} file (bitsIn table n) e′ (record { stop = stop; strict = strict; pages = k }) (rw (stands, outcome, a))
+        judges-agreed file (bitsIn table n) e′ (record { stop = stop; strict = strict; pages = k }) (rw (stands, outcome, a))
         (record { stood = rw there; rowsAre = rw there; count = m .count })
 
 -- an envelope
@@ -139,6 +138,6 @@ pub envelope-open : (file : ℕ) (bits e : List ℕ) {v : Versions} {stop : ℕ}
 unfolding versioned
 envelope-open file bits e o = rw o
 
-pub envelope-refused : (file : ℕ) (bits e bits′ : List ℕ) (entries : ℕ) (l : Lists) {g : Fault} → opened 1 e ≡ refused g → Judges file bits′ e (summed entries l (envelope 1 (payload file bits) e)) (Refused (g .number))
+pub envelope-refused : (file : ℕ) (bits e bits′ : List ℕ) (entries : ℕ) (l : Lists) {g : Fault} → opened 1 e ≡ refused g → Judges file bits′ e (inEnvelope 3 (summed entries l (envelope 1 (payload file bits) e))) (Refused 3 (g .number))
 unfolding versioned summed
 envelope-refused file bits e bits′ entries l {g} o = judges-refused {f = g} file bits′ e (rw o)

@@ -11,13 +11,13 @@ ghost use Prim.Native.Nat.{_+_, _*_, _<_};
 ghost use lib.Dec.{ltb};
 ghost use lib.ListN.{length};
 ghost use Rattle.page_list.specs.Tables.{pageListBeside};
-ghost use Rattle.figure_rules.specs.Report.{figureWidth, placed, mostLists, reported};
+ghost use Rattle.figure_rules.specs.Report.{outcomeOf, figureWidth, placed, mostLists, reported};
 
 // The figures of as many columns as a header may have.
-const MOST_FIGURES: usize = 4096;
+const MOST_FIGURES: usize = FIGURE_WORDS * rows::MOST_COLUMNS;
 
 // Adds the figures of a page list to a report (4 words to a column: pages, elements, stored sizes, pages with a checksum), and answers with
-// the lists taken and refused so far. A report starts at zeros, and so do the counts.
+// the lists accepted and refused so far. A report starts at zeros, and so do the counts.
 pub fn report_page_list(
     header: &[u8],
     page_list: &[u8],
@@ -27,6 +27,7 @@ pub fn report_page_list(
     report: &mut [u64],
 ) -> ReportAnswer
     ensures answers { λ r. ⌜ r ≡ reported (pageListBeside (now (header .entry)) (now («page_list» .entry)) entries «file_length») counts (now (report .entry)) .answer ⌝ }
+    ensures reports { λ r. ⌜ outcomeOf r ≡ outcomeOf (reported (pageListBeside (now (header .entry)) (now («page_list» .entry)) entries «file_length») counts (now (report .entry)) .answer) ⌝ }
     ensures leaves { λ _. ⌜ now (report .exit) ≡ reported (pageListBeside (now (header .entry)) (now («page_list» .entry)) entries «file_length») counts (now (report .entry)) .words ⌝ }
 {
     if !takes_more(counts) {

@@ -28,9 +28,9 @@ pub fn add_all(figures: &[u64], report: &mut [u64])
     requires { ⌜ (length (now figures) ≤ length (now report)) × (sumsFit (now figures) (now report) ≡ true) ⌝ }
     ensures { λ _. ⌜ now (report .exit) ≡ added (now (figures .entry)) (now (report .entry)) ⌝ }
 {
-    let mut i = 0;
-    while i < figures.len() {
-        report[i] += figures[i];
-        i += 1;
+    let mut k = 0;
+    while k < figures.len() {
+        report[k] += figures[k];
+        k += 1;
     }
 }

@@ -4,8 +4,8 @@ use Rattle.envelope.specs.Answers.{openStep}
 use Rattle.column_pages.specs.ColumnPages.{bitsOf}
 use Rattle.page_list.proofs.JudgeLaws.{columns-inside, judged-refused, judged-wrong, judged-right, envelope-open, envelope-refused}
 use borrow.Author.Needs.{needs}
-use Rattle.page_list.proofs.judge.judge.Statement.{statement}
-use Rattle.page_list.proofs.judge.judge.Tie as tie
+use Rattle.page_list.proofs.judge.judge_envelope.Statement.{statement}
+use Rattle.page_list.proofs.judge.judge_envelope.Tie as tie
 
 open-envelope-requires : tie.Need-open-envelope-requires
 open-envelope-requires c κs = search needs
@@ -62,8 +62,8 @@ returns-4 : tie.Need-returns-4
 returns-4 c = let a = c .before .before .before .before .before .before .before .before .args in
     λ l o. envelope-refused (a .file) (bitsOf (l .columns)) (a .e .now) _ (a .entries) l (sym (c .before .before .before .open-envelope .ensures) ∙ ap openStep (c .before .f .given .1))
 
-pub judge-spec : {M : Type 1} → statement M
-judge-spec =
+pub judge-envelope-spec : {M : Type 1} → statement M
+judge-envelope-spec =
     tie.close
     (tie.spec
     open-envelope-requires
