@@ -33,7 +33,6 @@ unfoldable pub CallsInOrder : Type 0
 CallsInOrder = (header : List ℕ) (n : ℕ) (gs : List Given) (st : State) → ReportCalls header gs (fresh n) st → st ≡ inOrder header gs (fresh n)
 
 -- up to 1,024 calls leave the exact sums
-
 unfoldable pub SumsOfCalls : Type 0
 SumsOfCalls = (header : List ℕ) (n : ℕ) (gs : List Given) (st : State) → length gs ≤ mostLists → ReportCalls header gs (fresh n) st → Sums header n gs st
 
