@@ -1,7 +1,8 @@
 -- The figures of a column with one page more, and of a page list with one column more.
 -- Assumes nothing.
-use Prim.Native.Nat.{ℕ, _+_, _*_}
+use Prim.Native.Nat.{ℕ, _+_, _*_, _≤_}
 use mathlib.Core.Path.{_≡_, refl, sym, ap, _∙_}
+use mathlib.Core.Bool.{Bool, true, false}
 use mathlib.Core.List.{List, [], _∷_, _++_}
 use native.Mathlib.Omega.{arith}
 use lib.ListN.{length}
@@ -24,6 +25,11 @@ sizes-snoc = sum-snoc (λ p. p .size) sizesOf refl (λ p ps. refl)
 pub checked-snoc : (ps : List PageRow) (p : PageRow) → checkedOf (ps ++ (p ∷ [])) ≡ checkedOf ps + bit (p .checksum)
 unfolding checkedOf
 checked-snoc = sum-snoc (λ p. bit (p .checksum)) checkedOf refl (λ p ps. refl)
+
+-- a page has a checksum or not, so each adds at most 1
+pub bit-most : (b : Bool) → bit b ≤ 1
+bit-most true = omega arith
+bit-most false = omega arith
 
 pub figures-snoc : (pss : List (List PageRow)) (ps : List PageRow) → listFigures (pss ++ (ps ∷ [])) ≡ listFigures pss ++ figuresOf ps
 unfolding flat

@@ -2,7 +2,7 @@
 -- Assumes nothing.
 use Prim.Native.Nat.{ℕ, zero, suc, _+_, _*_, _^_, _<_, _≤_}
 use mathlib.Core.Path.{_≡_, refl}
-use mathlib.Core.Bool.{Bool, true, false}
+use mathlib.Core.Bool.{true}
 use mathlib.Core.List.{List, [], _∷_}
 use native.Mathlib.Omega.{arith}
 use borrow.Author.Tests.{lt-ltb}
@@ -14,6 +14,7 @@ use Rattle.rows.specs.declared.PageRow.{PageRow}
 use Rattle.pages.specs.Pages.{elementsOf}
 use Rattle.figure_rules.specs.Report.{sizesOf, checkedOf, listFigures, added, sumsFit}
 use Rattle.figure_rules.proofs.Accepted.{SmallPage, SmallColumn}
+use Rattle.figure_rules.proofs.Figures.{bit-most}
 
 -- no word is above a bound
 abbrev pub AtMost : ℕ → List ℕ → Type 0
@@ -32,10 +33,6 @@ sum-most f sum none one small ps column = let few = column .few in omega (arith,
     by : (ps : List PageRow) → Each SmallPage ps → sum ps ≤ 2 ^ 31 * length ps
     by [] each = omega (arith, none)
     by (p ∷ ps) each = omega (arith, one p ps, small p (each .0), by ps (each .1))
-
-bit-most : (b : Bool) → bit b ≤ 1
-bit-most true = omega arith
-bit-most false = omega arith
 
 pub figures-most : (pss : List (List PageRow)) → Each SmallColumn pss → AtMost (2 ^ 45) (listFigures pss)
 unfolding flat elementsOf sizesOf checkedOf

@@ -1,3 +1,4 @@
 pub mod Bounds
 pub mod Sums
 pub mod Orders
+pub mod Calls

@@ -7,32 +7,32 @@ use native.Mathlib.Omega.{arith}
 use lib.ListN.{length, getD}
 use lib.Seq.{ext-getD}
 use Rattle.figure_rules.proofs.Accepted.{read-beside}
-use Rattle.figure_sums.specs.Orders.{Given, readBeside, fresh, inOrder, shareOf, acceptedBy, refusedBy, total, ExactSums, Reordered, none, keep, swap, again, AnyOrder, NonePasses}
+use Rattle.figure_sums.specs.Orders.{Given, readBeside, fresh, inOrder, shareOf, acceptedBy, refusedBy, total, ExactSums, Permutation, empty, skip, swap, trans, AnyOrder, NonePasses}
 use Rattle.figure_sums.proofs.Sums.{list-fits, sums-from, fresh-open, exact-sums}
 
-total-reordered : (f : Given → ℕ) {gs hs : List Given} → Reordered gs hs → total f gs ≡ total f hs
+total-permuted : (f : Given → ℕ) {gs hs : List Given} → Permutation gs hs → total f gs ≡ total f hs
 unfolding total
-total-reordered f none = refl
-total-reordered f (keep {g = g} r) = ap (λ (m : ℕ). f g + m) (total-reordered f r)
-total-reordered f swap = omega arith
-total-reordered f (again r s) = total-reordered f r ∙ total-reordered f s
+total-permuted f empty = refl
+total-permuted f (skip {g = g} r) = ap (λ (m : ℕ). f g + m) (total-permuted f r)
+total-permuted f swap = omega arith
+total-permuted f (trans r s) = total-permuted f r ∙ total-permuted f s
 
-length-reordered : {gs hs : List Given} → Reordered gs hs → length gs ≡ length hs
-length-reordered none = refl
-length-reordered (keep r) = ap suc (length-reordered r)
-length-reordered swap = refl
-length-reordered (again r s) = length-reordered r ∙ length-reordered s
+length-permuted : {gs hs : List Given} → Permutation gs hs → length gs ≡ length hs
+length-permuted empty = refl
+length-permuted (skip r) = ap suc (length-permuted r)
+length-permuted swap = refl
+length-permuted (trans r s) = length-permuted r ∙ length-permuted s
 
 pub any-order : AnyOrder
 unfolding AnyOrder ExactSums
 any-order header n gs hs h r =
     let a = exact-sums header n gs (omega arith) in
-    let b = exact-sums header n hs (omega (arith, length-reordered r)) in
+    let b = exact-sums header n hs (omega (arith, length-permuted r)) in
     let words = ext-getD 0 (inOrder header gs (fresh n) .words) (inOrder header hs (fresh n) .words) (a .long ∙ sym (b .long)) (λ k l.
     let m : k < n = omega (arith, a .long) in
-    a .figures k m ∙ total-reordered (λ g. getD (shareOf n (readBeside header g)) k 0) r ∙ sym (b .figures k m)) in
-    let accepted = a .acceptedAre ∙ total-reordered (λ g. acceptedBy n (readBeside header g)) r ∙ sym (b .acceptedAre) in
-    let refused = a .refusedAre ∙ total-reordered (λ g. refusedBy (readBeside header g)) r ∙ sym (b .refusedAre) in
+    a .figures k m ∙ total-permuted (λ g. getD (shareOf n (readBeside header g)) k 0) r ∙ sym (b .figures k m)) in
+    let accepted = a .acceptedAre ∙ total-permuted (λ g. acceptedBy n (readBeside header g)) r ∙ sym (b .acceptedAre) in
+    let refused = a .refusedAre ∙ total-permuted (λ g. refusedBy (readBeside header g)) r ∙ sym (b .refusedAre) in
     λ j. record { counts = record { accepted = accepted j; refused = refused j }; words = words j }
 
 pub none-passes : NonePasses

@@ -77,16 +77,16 @@ pub record Sums (header : List ℕ) (n : ℕ) (gs : List Given) (st : State) : T
 unfoldable pub ExactSums : Type 0
 ExactSums = (header : List ℕ) (n : ℕ) (gs : List Given) → length gs ≤ mostLists → Sums header n gs (inOrder header gs (fresh n))
 
--- the same lists in another order
-pub data Reordered : List Given → List Given → Type 0 where
-  none : Reordered [] []
-  keep : {g : Given} {gs hs : List Given} → Reordered gs hs → Reordered (g ∷ gs) (g ∷ hs)
-  swap : {g h : Given} {gs : List Given} → Reordered (g ∷ h ∷ gs) (h ∷ g ∷ gs)
-  again : {gs hs is : List Given} → Reordered gs hs → Reordered hs is → Reordered gs is
+-- a permutation: the same lists in another order
+pub data Permutation : List Given → List Given → Type 0 where
+  empty : Permutation [] []
+  skip : {g : Given} {gs hs : List Given} → Permutation gs hs → Permutation (g ∷ gs) (g ∷ hs)
+  swap : {g h : Given} {gs : List Given} → Permutation (g ∷ h ∷ gs) (h ∷ g ∷ gs)
+  trans : {gs hs is : List Given} → Permutation gs hs → Permutation hs is → Permutation gs is
 
 unfoldable pub AnyOrder : Type 0
 AnyOrder =
-    (header : List ℕ) (n : ℕ) (gs hs : List Given) → length gs ≤ mostLists → Reordered gs hs
+    (header : List ℕ) (n : ℕ) (gs hs : List Given) → length gs ≤ mostLists → Permutation gs hs
     → inOrder header gs (fresh n) ≡ inOrder header hs (fresh n)
 
 -- No figure passes 64 bits: each list adds at most 2 to the 45 to a word, so 1,024 lists at most 2 to the 55, and the figures of any list that was read fit.

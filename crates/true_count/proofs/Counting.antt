@@ -1,7 +1,7 @@
 -- A Bit page is refused as decoding refuses it, and where it is not, the ones of its bytes are its true elements.
 -- Assumes nothing.
 use mathlib.Core.Path.{_≡_, refl, sym, ap, _∙_, subst}
-use mathlib.Core.Bool.{Bool, true, false}
+use mathlib.Core.Bool.{Bool, true, false, false≢true}
 use mathlib.Core.List.{List, [], _∷_}
 use mathlib.Core.Logic.{_⊎_, inl, inr, ⊎-elim}
 use Prim.Native.Nat.{ℕ, _+_, _/_, _%_, _^_, _<_, _≤_}
@@ -17,12 +17,12 @@ use Rattle.outcome.specs.Outcome.{Outcome, isAccepted, RefusalTells}
 use Rattle.outcome.proofs.Outcomes.{refusal-tells}
 use Rattle.column_type.specs.Types.{known, widths}
 use Rattle.coding.proofs.Bits.{length-unpacked}
-use Rattle.page_rules.specs.Page.{accept, refuse, RefusedBy, mostElements, sizeOf, elements, checksumRight, unusedClear, decodeOutcome, chosen}
+use Rattle.page_rules.specs.Page.{accept, refuse, unless, RefusedBy, readable, mostElements, sizeOf, elements, checksumRight, unusedClear, decodeOutcome, chosen}
 use Rattle.page_rules.proofs.Types.{bit-size}
 use Rattle.page_rules.proofs.Laid.{chosen-left, elements-bit}
 use Rattle.page_rules.proofs.Decoding.{unless-by, Decodes, decodes, accepted, clear-byte, decoded-accepted}
 use Rattle.true_count.specs.declared.CountAnswer.the-variants.{Counted, Refused}
-use Rattle.true_count.specs.True.{OutcomeTells, trues, bitType, countOutcome, CountsDecoded, CountNumbers}
+use Rattle.true_count.specs.True.{OutcomeTells, trues, bitType, countOutcome, CountsDecoded, RefusedAlike, RefusedAsDecoding, CountNumbers}
 use Rattle.true_count.proofs.Bits.{Bytes, little-front, trues-bytes}
 
 pub outcome-tells : OutcomeTells
@@ -121,3 +121,45 @@ counts-decoded n checksum page old start e =
     let c = ap (λ (l : List ℕ). chosen n l start) (sym (decoded-accepted bitType n checksum page old start e))
     ∙ chosen-left old (elements bitType n page) start n (count-elements n checksum page) (d .room) in
     sym (counted-so n checksum page n a) ∙ ap (λ (l : List ℕ). accept (trues l)) (sym c)
+
+-- what decoding answers with room enough (`free`) and to other words (`lent`): both refuse alike, and not by 20, or the room alone decides
+abbrev RoomAside : ℕ → Bool → Outcome → Outcome → Type 0
+RoomAside n room free lent = ((lent ≡ free) × (eqb (free .number) 20 ≡ false)) ⊎ ((free ≡ accept n) × (lent ≡ unless room 20 (accept n)))
+
+-- one test more
+unless-aside : (n : ℕ) (room good : Bool) (k : ℕ) (free lent : Outcome) → eqb k 20 ≡ false → RoomAside n room free lent → RoomAside n room (unless good k free) (unless good k lent)
+unless-aside n room true k free lent e b = b
+unless-aside n room false k free lent e b = inl (refl, e)
+
+room-aside : (n : ℕ) (checksum : Bool) (page : List ℕ) (words start : ℕ) → RoomAside n (leb (start + n) words) (answer n checksum page) (decodeOutcome bitType n checksum page words start)
+unfolding decodeOutcome
+room-aside n checksum page words start =
+    let room : Bool = leb (start + n) words in
+    unless-aside n room (readable bitType) 23 _ _ refl
+    (unless-aside n room (leb n mostElements) 10 _ _ refl
+    (unless-aside n room (eqb (length page) (sizeOf bitType n + trailer checksum)) 21 _ _ refl
+    (unless-aside n room (checksumRight checksum (sizeOf bitType n) page) 22 _ _ refl
+    (unless-aside n room (unusedClear bitType n page) 24 _ _ refl
+    (inr (rw (le-leb (0 + n) n (omega arith)), refl))))))
+
+-- a refusal where only room can be missing is 20
+only-20 : (n k : ℕ) (room : Bool) → unless room 20 (accept n) ≡ refuse k → k ≡ 20
+only-20 n k true e = absurd (false≢true (ap isAccepted (sym e)))
+only-20 n k false e = ap (λ (o : Outcome). o .number) (sym e)
+
+pub refused-as-decoding : RefusedAsDecoding
+unfolding RefusedAsDecoding
+refused-as-decoding n checksum page words start = by (room-aside n checksum page words start)
+  where
+    by : RoomAside n (leb (start + n) words) (answer n checksum page) (decodeOutcome bitType n checksum page words start)
+        → RefusedAlike n checksum page (decodeOutcome bitType n checksum page words start)
+    by (inl (same, other)) =
+        record {
+          sameNumber = λ k e _. sym (refused-so n checksum page k (sym e ∙ same));
+          roomAside = λ e. absurd (false≢true (sym other ∙ ap (λ (o : Outcome). eqb (o .number) 20) (sym same ∙ e)));
+        }
+    by (inr (free, only)) =
+        record {
+          sameNumber = λ k e other. absurd (other (only-20 n k (leb (start + n) words) (sym only ∙ e)));
+          roomAside = λ _. sym (counted-so n checksum page n (sym free));
+        }

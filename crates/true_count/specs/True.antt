@@ -43,6 +43,16 @@ CountsDecoded =
     (n : ℕ) (checksum : Bool) (page old : List ℕ) (start : ℕ) → isAccepted (decodeOutcome bitType n checksum page (length old) start) ≡ true
     → countOutcome n checksum page ≡ accept (trues (chosen n (decoded bitType n checksum page old start) start))
 
+-- where decoding refuses the page, so does the count, by the same number; where only the room was too little (20, the last test), it counts
+pub record RefusedAlike (n : ℕ) (checksum : Bool) (page : List ℕ) (decoding : Outcome) : Type 0 where
+  pub sameNumber : (k : ℕ) → decoding ≡ refuse k → (k ≡ 20 → ⊥) → countOutcome n checksum page ≡ refuse k
+  pub roomAside : decoding ≡ refuse 20 → countOutcome n checksum page ≡ accept (trues (elements bitType n page))
+
+-- so it is however many words are lent, and wherever in them decoding starts
+unfoldable pub RefusedAsDecoding : Type 0
+RefusedAsDecoding =
+    (n : ℕ) (checksum : Bool) (page : List ℕ) (words start : ℕ) → RefusedAlike n checksum page (decodeOutcome bitType n checksum page words start)
+
 -- a count of at most n
 pub record CountsUpTo (n : ℕ) (o : Outcome) : Type 0 where
   pub count : ℕ
