@@ -240,8 +240,9 @@ uint32_t rnt_read_paired_page_list(const uint8_t *header, size_t header_length,
  * A report is begun with zeros in all its rows and with accepted and refused 0.
  * After that the two are the result of the call before, and every call has the
  * same header. Then the figures are exact sums over the lists that were
- * accepted, whatever the order of the lists; a refused list adds nothing and is
- * counted apart. A report takes RNT_MOST_LISTS lists, refused ones too.
+ * accepted, whatever the order of the lists; one that the reader refuses adds
+ * nothing and is counted apart. A report takes RNT_MOST_LISTS lists, refused
+ * ones too.
  *
  * Refusals, in this order:
  *   - accepted plus refused, without wrapping, is RNT_MOST_LISTS or more: 10,
