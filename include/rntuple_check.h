@@ -23,7 +23,7 @@
  *    7  number, string or frame runs past its container
  *    8  wrong frame kind, size below its own head, reserved bits set
  *    9  string is not well-formed UTF-8
- *   10  count above a ceiling
+ *   10  count above a ceiling, or a figure past 64 bits
  *   11  unexplained bytes after the last known content while version equals
  *       minimum
  *   12  role above 4, or a flag not listed
@@ -228,8 +228,11 @@ uint32_t rnt_read_paired_page_list(const uint8_t *header, size_t header_length,
 
 /*
  * Adds the figures of a page list to a report. The first six arguments are
- * those of rnt_read_page_list, without a table of pages: the list is added
- * exactly when that call accepts it with room enough.
+ * those of rnt_read_page_list. A list is refused where that call refuses it
+ * with room for all pages, and for three reasons of the report's own; any other
+ * is added.
+ *
+ * No table of pages is lent. The call takes up to about 150 KiB of stack.
  *
  * Report row, 4 words, for each column of the header: pages, elements, stored
  * sizes (bytes, without checksums), and pages with a checksum.
@@ -237,20 +240,22 @@ uint32_t rnt_read_paired_page_list(const uint8_t *header, size_t header_length,
  * A report is begun with zeros in all its rows and with accepted and refused 0.
  * After that the two are the result of the call before, and every call has the
  * same header. Then the figures are exact sums over the lists that were
- * accepted, whatever the order of the lists; a refused list adds nothing and is
- * counted apart. A report takes RNT_MOST_LISTS lists, refused ones too.
+ * accepted, whatever the order of the lists; one that the reader refuses adds
+ * nothing and is counted apart. A report takes RNT_MOST_LISTS lists, refused
+ * ones too.
  *
  * Refusals, in this order:
  *   - accepted plus refused, without wrapping, is RNT_MOST_LISTS or more: 10,
  *     envelope 3, counted nowhere;
- *   - those of rnt_read_page_list, envelope 1 where the header is refused, else
- *     3; these alone are counted as refused lists. Its 20 does not occur;
+ *   - those of rnt_read_page_list with room for all pages, so that its 20 does
+ *     not occur: envelope 1 where the header is refused, else 3. These alone
+ *     are counted as refused lists;
  *   - the report has fewer rows than the header has columns: 20, envelope 3,
  *     counted nowhere;
  *   - a figure of the report would pass 64 bits: 10, envelope 3, counted
  *     nowhere.
- * A refusal changes no word of the report. Words behind the rows of the
- * header's columns are left alone.
+ * A list that is added is counted as accepted. A refusal changes no word of the
+ * report. Words behind the rows of the header's columns are left alone.
  *
  * Result, 2 words, also on refusal: how many lists were accepted and how many
  * refused, this one included where it is counted. They are to be handed to the

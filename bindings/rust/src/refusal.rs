@@ -68,7 +68,7 @@ reasons! {
     (7, PastContainer, "number, string or frame runs past its container"),
     (8, FrameWrong, "wrong frame kind, size below its own head, reserved bits set"),
     (9, StringWrong, "string is not well-formed UTF-8"),
-    (10, CountAboveCeiling, "count above a ceiling"),
+    (10, CountAboveCeiling, "count above a ceiling, or a figure past 64 bits"),
     (11, UnexplainedBytes, "unexplained bytes after the last known content while version equals minimum"),
     (12, NotListed, "role above 4, or a flag not listed"),
     (13, BitsOfType, "known column type with other bits"),
@@ -155,11 +155,11 @@ impl Error for ColumnRefusal {
     }
 }
 
-/// A page list that a report does not take: the figures are as they were.
+/// A page list that is not added to a report: the figures are as they were.
 #[derive(Clone, Copy, Debug, PartialEq, Eq, Hash)]
 pub struct ReportRefusal {
     pub refusal: Refusal,
-    /// The counts afterwards, which the next call takes. The list is among the
+    /// The counts afterwards, which go into the next call. The list is among the
     /// refused ones where the reader refuses it, and counted nowhere otherwise.
     pub lists: ListCounts,
 }

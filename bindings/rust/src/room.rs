@@ -91,8 +91,8 @@ impl PageListRoom {
 }
 
 /// A report over page lists under one header: the figures of its columns, and how
-/// many lists it has taken. With rows for as many columns as there can be it is
-/// never too small.
+/// many lists it has taken, accepted ones and refused ones. With rows for as many
+/// columns as there can be it is never too small.
 #[derive(Clone, Debug, PartialEq, Eq)]
 pub struct Report {
     words: Vec<u64>,

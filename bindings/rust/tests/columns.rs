@@ -215,6 +215,6 @@ fn rows_of_page_lists_and_words_of_refusals() {
     assert_eq!(refusal.source().unwrap().to_string(), refusal.refusal.to_string());
     assert_eq!(
         refused(Reason::CountAboveCeiling, most::COLUMN_PAGES).to_string(),
-        "more than 256 pages of the column: page refused 10: count above a ceiling"
+        "more than 256 pages of the column: page refused 10: count above a ceiling, or a figure past 64 bits"
     );
 }

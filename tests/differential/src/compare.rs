@@ -130,7 +130,7 @@ impl Shelf {
 
 /// What is counted besides the answers, in the order of `NOTES`.
 #[derive(Clone, Copy)]
-enum Note {
+pub enum Note {
     Newer,
     CarriesChecksums,
     RowsChecksum,
@@ -146,6 +146,9 @@ enum Note {
     LaterPage,
     SingleCalls,
     AddedLists,
+    ListTooMany,
+    ReadersCeiling,
+    FigurePastEnd,
     ExactSums,
     MostLists,
     CountedAgain,
@@ -153,7 +156,7 @@ enum Note {
 }
 
 /// The notes as a report has them.
-pub const NOTES: [&str; 19] = [
+pub const NOTES: [&str; 22] = [
     "of them also from a newer writer",
     "of them with checksums of page lists",
     "of them with the row's checksum",
@@ -169,6 +172,9 @@ pub const NOTES: [&str; 19] = [
     "refused behind pages that stay decoded",
     "made again by single calls",
     "lists added to figures",
+    "refused 10 as one list too many",
+    "refused 10 by the reader",
+    "refused 10 for a figure past 64 bits",
     "made again from zeros in two orders",
     "of them with as many lists as there can be",
     "counted again in decoded words",

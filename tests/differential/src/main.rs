@@ -1,7 +1,7 @@
 //! Compares the library with the independent reference on seeded cases.
 
 use differential::calls;
-use differential::compare::{Comparer, Tally, NOTES};
+use differential::compare::{Comparer, Note, Tally, NOTES};
 use differential::generate::{Kind, KINDS};
 use std::cell::Cell;
 use std::process::ExitCode;
@@ -156,6 +156,14 @@ fn reachable(kind: Kind) -> Vec<(usize, usize)> {
     }
 }
 
+/// What else should be there, where a number has several reasons.
+fn reachable_notes(kind: Kind) -> &'static [Note] {
+    match kind {
+        Kind::Report => &[Note::ListTooMany, Note::ReadersCeiling, Note::FigurePastEnd],
+        _ => &[],
+    }
+}
+
 fn report(kind: Kind, tally: &Tally) {
     print!("{}: {} cases, {} accepted", kind.name(), tally.cases, tally.accepted);
     for (note, count) in NOTES.iter().zip(tally.notes).filter(|(_, count)| *count > 0) {
@@ -175,11 +183,16 @@ fn report(kind: Kind, tally: &Tally) {
     if tally.cases < ENOUGH {
         return;
     }
-    let missing: Vec<String> = reachable(kind)
+    let refusals = reachable(kind)
         .into_iter()
         .filter(|&(envelope, number)| tally.refused[envelope][number] == 0)
-        .map(|(envelope, number)| format!("{envelope} {number}"))
-        .collect();
+        .map(|(envelope, number)| format!("{envelope} {number}"));
+    let notes = reachable_notes(kind)
+        .iter()
+        .map(|&note| note as usize)
+        .filter(|&note| tally.notes[note] == 0)
+        .map(|note| NOTES[note].to_string());
+    let missing: Vec<String> = refusals.chain(notes).collect();
     if !missing.is_empty() {
         println!("  not reached: {}", missing.join(", "));
     }

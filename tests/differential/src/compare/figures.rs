@@ -13,6 +13,9 @@ use std::fmt::Write;
 
 const BIT: u32 = 6;
 
+/// Number 10 of a page list, which a report gives for three reasons.
+const PAGE_LIST_CEILING: u32 = 3 * 256 + 10;
+
 /// The list as it is handed over with these counts.
 fn reported<'a>(case: &'a ReportCase, list: &'a HandedList, counts: Counts) -> ReportedList<'a> {
     ReportedList {
@@ -102,6 +105,14 @@ impl Comparer {
             0 => self.tally.note(Note::AddedLists),
             calls::RESULT_TOO_SHORT => self.tally.note(Note::Short),
             _ => self.tally.refused[(theirs / 256) as usize][(theirs % 256) as usize] += 1,
+        }
+        if theirs == PAGE_LIST_CEILING {
+            let [accepted, refused] = list.counts;
+            self.tally.note(match self.result.reference()[1] != refused {
+                true => Note::ReadersCeiling,
+                false if u128::from(accepted) + u128::from(refused) >= u128::from(LISTS) => Note::ListTooMany,
+                false => Note::FigurePastEnd,
+            });
         }
         Ok(ours)
     }

@@ -13,6 +13,9 @@ pub const HEADERS: u64 = 18;
 /// So many edge cases `page_list` has.
 pub const PAGE_LISTS: u64 = 12;
 
+/// The one with as many columns and pages as there can be, pages in each column.
+pub const MOST_COLUMNS_AND_PAGES: u64 = 2;
+
 fn fields(random: &mut Random, parents: Vec<u32>) -> Vec<Field> {
     parents
         .into_iter()
@@ -191,7 +194,7 @@ pub fn page_list(random: &mut Random, place: u64) -> Option<(Header, PageList, u
     let (columns, pages) = match place {
         0 | 9 | 10 => (1, 16_384),
         1 => (1, 16_385),
-        2 => (1_024, 16_384),
+        MOST_COLUMNS_AND_PAGES => (1_024, 16_384),
         3 => (1_024, 16_385),
         4 => (1_024, 0),
         5 => (1_025, 0),

@@ -222,10 +222,12 @@ impl Generator {
     }
 
     pub(super) fn other_number(&mut self, old: u64) -> u64 {
-        match self.random.below(4) {
+        match self.random.below(5) {
             0 => old.wrapping_add(1),
             1 => old.wrapping_sub(1),
             2 => self.random.up_to(old),
+            // Another number only in the highest bits.
+            3 => old.wrapping_add(1 << (60 + self.random.below(4))),
             _ => self.random.number(),
         }
     }

@@ -49,6 +49,8 @@ struct Draft {
     lists: Vec<Model>,
     /// Whether lists may be damaged.
     whole: bool,
+    /// Whether a figure of the last column passes its end, and no other does.
+    last_ends: bool,
 }
 
 /// What a list would add to each column.
@@ -134,20 +136,38 @@ fn any(random: &mut Random, place: u64) -> Draft {
         header,
         lists,
         whole: true,
+        last_ends: false,
     }
 }
 
 /// The large page lists, each of them more than once.
 fn edge(random: &mut Random, place: u64) -> Option<Draft> {
-    let (header, list, entries, file_length) = edges::page_list(random, place.checked_sub(FULL_REPORTS)?)?;
+    let place = place.checked_sub(FULL_REPORTS)?;
+    let (header, list, entries, file_length) = edges::page_list(random, place)?;
     Some(Draft {
         header,
         lists: vec![(list, entries, file_length); 2],
         whole: false,
+        last_ends: place == edges::MOST_COLUMNS_AND_PAGES,
     })
 }
 
 impl Draft {
+    /// A report with room enough, in which one of these lists takes a figure of the
+    /// last column past its end; all others have room.
+    fn ending_in_last_column(&self, random: &mut Random) -> Vec<u64> {
+        let last = self.header.columns.items.len() - 1;
+        let words = (last + 1) * ROW_WORDS + random.index(2 * ROW_WORDS);
+        let mut report: Vec<u64> = (0..words).map(|_| random.below(1 << 40)).collect();
+        let figure = random.index(ROW_WORDS);
+        let passing = 1 + random.index(self.lists.len());
+        let added = self.lists[..passing]
+            .iter()
+            .map(|(list, _, _)| figures(list)[last][figure]);
+        report[last * ROW_WORDS + figure] = u64::MAX - added.sum::<u64>().saturating_sub(1);
+        report
+    }
+
     /// A report of these words, some of its figures near their end.
     fn report(&self, random: &mut Random, words: usize) -> Vec<u64> {
         let mut report: Vec<u64> = match random.below(8) {
@@ -214,12 +234,16 @@ impl Generator {
             let spoilt = draft.whole && self.random.below(8) < damaged;
             lists.push(self.handed(model, spoilt));
         }
-        if !full {
+        if !full && !draft.last_ends {
             self.choose_counts(&mut lists);
         }
         let random = &mut self.random;
-        let words = report_room(random, draft.header.columns.items.len());
-        let report = draft.report(random, words);
+        let report = if draft.last_ends {
+            draft.ending_in_last_column(random)
+        } else {
+            let words = report_room(random, draft.header.columns.items.len());
+            draft.report(random, words)
+        };
         let mut order: Vec<usize> = (0..lists.len()).collect();
         for last in (1..order.len()).rev() {
             order.swap(last, random.index(last + 1));

@@ -217,6 +217,18 @@ pub const WRONG: &[(&str, ReportCall)] = &[
         },
     ),
     (
+        "entries in 60 bits",
+        way! {
+            read: |list, words| read(ReportedList { entries: list.entries % (1 << 60), ..list }, words),
+        },
+    ),
+    (
+        "entries in 63 bits",
+        way! {
+            read: |list, words| read(ReportedList { entries: list.entries % (1 << 63), ..list }, words),
+        },
+    ),
+    (
         "entries and file length are exchanged",
         way! {
             read: |list, words| {

@@ -248,6 +248,10 @@ pub const WRONG: &[(&str, ReportCall)] = &[
         way! { sum: |at, old, added| tested(at, old, added, |at| at >= 4) },
     ),
     (
+        "ends in all rows but the last of 1,024",
+        way! { sum: |at, old, added| tested(at, old, added, |at| at < 4 * 1_023) },
+    ),
+    (
         "an end of elements is one of the pages",
         way! { sum: |at, old, added| match at % 4 {
             1 => Some(old.saturating_add(added as u64)),
