@@ -1,14 +1,14 @@
 // From the bytes of a page to its elements, in lent words.
 ghost use mathlib.Core.Path.{_≡_};
 ghost use mathlib.Core.Bool.{true, false};
-ghost use Prim.Native.Nat.{_+_, _*_, _≤_};
+ghost use Prim.Native.Nat.{ℕ, _+_, _*_, _≤_};
 ghost use lib.ListN.{length};
-ghost use lib.Dec.{eqb};
-ghost use Rattle.numbers.specs.Numbers.{little};
+ghost use Rattle.numbers.specs.Numbers.{little, bytesFor};
 ghost use Rattle.numbers.specs.Rows.{over};
-ghost use Rattle.coding.specs.Layout.{WholeBytes, plain, unplain, unplanes};
-ghost use Rattle.column_type.specs.Types.{widthOf, split};
-ghost use Rattle.page_rules.specs.Page.{readable, sizeOf, elements};
+ghost use Rattle.coding.specs.Layout.{WholeBytes, DeltaWidth, SplitWidth, plain, unplain, unplanes};
+ghost use Rattle.column_type.specs.Types.{widthOf, split, delta, zigzag, Marked};
+ghost use Rattle.page_rules.specs.Page.{elements};
+ghost use Rattle.page_rules.specs.Widths.{readWidth};
 ghost use Rattle.page_decoding.specs.Blocks.{blockOf};
 use crate::bit::unpack;
 use crate::difference::sum_up;
@@ -143,33 +143,48 @@ fn split_out(page: &[u8], k: usize, n: usize, out: &mut [u64])
     }
 }
 
-// The first n words become the elements of a split page whose elements have so many bits: its numbers, and then what delta or zigzag makes of them.
-fn fill_split(column_type: u64, width: u64, n: usize, page: &[u8], out: &mut [u64])
-    requires { ⌜ (readable «column_type» ≡ true) × (eqb «column_type» 6 ≡ false) × (split «column_type» ≡ true) × (width ≡ widthOf «column_type») × (sizeOf «column_type» n ≤ length (now page)) × (n ≤ length (now out)) ⌝ }
-    ensures { λ _. ⌜ now (out .exit) ≡ over (elements «column_type» n (now (page .entry))) (now (out .entry)) ⌝ }
+// Whether a split page has delta, of the widths that have it.
+fn has_delta(width: u64, marks: u8) -> bool
+    requires { ⌜ readWidth width ≡ true ⌝ }
+    ensures { λ r. ⌜ (r ≡ true → DeltaWidth width) × ((t : ℕ) → width ≡ widthOf t → Marked t marks → r ≡ delta t) ⌝ }
+{
+    16 < width && column_type::delta_in(marks)
+}
+
+// The same of zigzag.
+fn has_zigzag(width: u64, marks: u8) -> bool
+    requires { ⌜ readWidth width ≡ true ⌝ }
+    ensures { λ r. ⌜ (r ≡ true → SplitWidth width) × ((t : ℕ) → width ≡ widthOf t → Marked t marks → r ≡ zigzag t) ⌝ }
+{
+    8 < width && column_type::zigzag_in(marks)
+}
+
+// The first n words become the elements of a split page: its numbers, and then what delta or zigzag makes of them.
+fn fill_split(width: u64, marks: u8, n: usize, page: &[u8], out: &mut [u64])
+    requires { ⌜ (readWidth width ≡ true) × (width ≡ 1 → ⊥) × (bytesFor n width ≤ length (now page)) × (n ≤ length (now out)) ⌝ }
+    ensures { λ _. ⌜ ((t : ℕ) → width ≡ widthOf t → Marked t marks → split t ≡ true → now (out .exit) ≡ over (elements t n (now (page .entry))) (now (out .entry))) ⌝ }
 {
     split_out(page, (width / 8) as usize, n, out);
-    if column_type::is_delta(column_type) {
+    if has_delta(width, marks) {
         sum_up(width, n, out);
         return;
     }
-    if column_type::is_zigzag(column_type) {
+    if has_zigzag(width, marks) {
         unzigzag_all(width, n, out);
     }
 }
 
 // The first n words become the elements of a page. What is plain has neither delta nor zigzag.
-pub fn fill(column_type: u64, n: usize, page: &[u8], out: &mut [u64])
-    requires { ⌜ (readable «column_type» ≡ true) × (sizeOf «column_type» n ≤ length (now page)) × (n ≤ length (now out)) ⌝ }
-    ensures { λ _. ⌜ now (out .exit) ≡ over (elements «column_type» n (now (page .entry))) (now (out .entry)) ⌝ }
+pub fn fill(width: u64, marks: u8, n: usize, page: &[u8], out: &mut [u64])
+    requires { ⌜ (readWidth width ≡ true) × (bytesFor n width ≤ length (now page)) × (n ≤ length (now out)) ⌝ }
+    ensures { λ _. ⌜ ((t : ℕ) → width ≡ widthOf t → Marked t marks → now (out .exit) ≡ over (elements t n (now (page .entry))) (now (out .entry))) ⌝ }
 {
-    if column_type == 6 {
+    if width == 1 {
         unpack(page, n, out);
         return;
     }
-    let width = column_type::width_of(column_type);
-    if column_type::is_split(column_type) {
-        fill_split(column_type, width, n, page, out);
+    if column_type::split_in(marks) {
+        fill_split(width, marks, n, page, out);
     } else {
         plain_out(page, (width / 8) as usize, n, out);
     }
