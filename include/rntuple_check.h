@@ -1,7 +1,8 @@
 /*
  * Reading and writing of RNTuple headers, footers and page lists, listing of a
- * header's fields, decoding and encoding of pages, and decoding of columns. All
- * memory is lent by the caller; nothing is kept between calls.
+ * header's fields, figures over page lists, decoding and encoding of pages,
+ * decoding of columns, and counting of true elements. All memory is lent by the
+ * caller; nothing is kept between calls.
  *
  * Every pointer is followed by its number of elements (bytes for uint8_t,
  * words for uint64_t). Where that number is 0 the pointer may be NULL, or any
@@ -45,8 +46,8 @@
  *
  * Results. A call with result words writes all of them: the values named at
  * the call when it accepts, zeros when it refuses (rnt_decode_column has its
- * index there, see below). Words beyond those named
- * are left alone. Where fewer words are lent than are named, the answer is
+ * index there, rnt_report_page_list its counts, see below). Words beyond those
+ * named are left alone. Where fewer words are lent than are named, the answer is
  * RNT_RESULT_TOO_SHORT and nothing at all is written, no table either.
  *
  * Tables. Rows stand one after the other. A table has as many rows as fit
@@ -80,6 +81,7 @@ extern "C" {
 #define RNT_LINK_WORDS 2
 #define RNT_PAGE_WORDS 5
 #define RNT_COLUMN_PAGE_WORDS 4
+#define RNT_FIGURE_WORDS 4
 
 /*
  * In place of a page list's checksum: the footer carries none. It is one more
@@ -100,6 +102,9 @@ extern "C" {
 
 /* The most pages of one column call. */
 #define RNT_MOST_COLUMN_PAGES 256
+
+/* The most page lists of one report, refused ones too. */
+#define RNT_MOST_LISTS 1024
 
 /*
  * Reads a header. Refusals have envelope 1.
@@ -220,6 +225,44 @@ uint32_t rnt_read_paired_page_list(const uint8_t *header, size_t header_length,
                                    uint64_t file_length,
                                    uint64_t *pages, size_t page_words,
                                    uint64_t *result, size_t result_words);
+
+/*
+ * Adds the figures of a page list to a report. The first six arguments are
+ * those of rnt_read_page_list, without a table of pages: the list is added
+ * exactly when that call accepts it with room enough.
+ *
+ * Report row, 4 words, for each column of the header: pages, elements, stored
+ * sizes (bytes, without checksums), and pages with a checksum.
+ *
+ * A report is begun with zeros in all its rows and with accepted and refused 0.
+ * After that the two are the result of the call before, and every call has the
+ * same header. Then the figures are exact sums over the lists that were
+ * accepted, whatever the order of the lists; a refused list adds nothing and is
+ * counted apart. A report takes RNT_MOST_LISTS lists, refused ones too.
+ *
+ * Refusals, in this order:
+ *   - accepted plus refused, without wrapping, is RNT_MOST_LISTS or more: 10,
+ *     envelope 3, counted nowhere;
+ *   - those of rnt_read_page_list, envelope 1 where the header is refused, else
+ *     3; these alone are counted as refused lists. Its 20 does not occur;
+ *   - the report has fewer rows than the header has columns: 20, envelope 3,
+ *     counted nowhere;
+ *   - a figure of the report would pass 64 bits: 10, envelope 3, counted
+ *     nowhere.
+ * A refusal changes no word of the report. Words behind the rows of the
+ * header's columns are left alone.
+ *
+ * Result, 2 words, also on refusal: how many lists were accepted and how many
+ * refused, this one included where it is counted. They are to be handed to the
+ * next call.
+ */
+uint32_t rnt_report_page_list(const uint8_t *header, size_t header_length,
+                              const uint8_t *page_list,
+                              size_t page_list_length,
+                              uint64_t entries, uint64_t file_length,
+                              uint64_t accepted, uint64_t refused,
+                              uint64_t *report, size_t report_words,
+                              uint64_t *result, size_t result_words);
 
 /*
  * The three calls below write an envelope from its tables, whose rows are
@@ -353,6 +396,20 @@ uint32_t rnt_decode_column(uint32_t column_type,
                            const uint8_t *file, size_t file_length,
                            uint64_t *words, size_t word_count,
                            uint64_t *result, size_t result_words);
+
+/*
+ * Counts the true elements of a Bit page (column type 06), whose bytes include
+ * its checksum when one is asked for (any value of checksum other than 0).
+ *
+ * Refusals have envelope 4 and are those of rnt_decode_page for such a page
+ * with room enough, in its order: 10 for more than RNT_MOST_ELEMENTS elements,
+ * then 21, 22 and 24. No words are lent, so that 20 is never given.
+ *
+ * Result, 1 word: how many elements are true.
+ */
+uint32_t rnt_count_true(uint64_t elements, uint32_t checksum,
+                        const uint8_t *page, size_t page_length,
+                        uint64_t *result, size_t result_words);
 
 /*
  * Encodes elements, taken from words[start] on, into the first bytes of the

@@ -1,4 +1,4 @@
-# For the commands that run a proved program on a header: their arguments, and the program, built where it is missing or older than its sources.
+# For the commands that run a proved program on files: their arguments, and the program, built where it is missing or older than its sources.
 # A command sets `root`, the repository, and `name`, its own name and the program's, defines `usage`, and then sources this file.
 
 program=$root/target/bin/$name
@@ -28,27 +28,38 @@ build() {
     touch "$program" || fail "$program is missing"
 }
 
-# Makes the FILE that the command's arguments name its standard input, where they name one.
-take_input() {
+# Prints the usage and why the command's arguments are no good.
+misused() {
+    usage >&2
+    fail "$*"
+}
+
+# Prints the usage where it is asked for, or puts the command's arguments into `arguments`, those behind -- where they begin with it.
+take_options() {
     case ${1-} in
     -h | --help)
         usage
         exit 0
         ;;
     --) shift ;;
-    -?*)
-        usage >&2
-        fail "no such option: $1"
-        ;;
+    -?*) misused "no such option: $1" ;;
     esac
-    if [ $# -gt 1 ]; then
-        usage >&2
-        fail "one FILE at a time"
-    fi
+    arguments=("$@")
+}
+
+check_file() {
+    [ -e "$1" ] || fail "$1: no such file"
+    [ ! -d "$1" ] || fail "$1: a directory"
+    [ -r "$1" ] || fail "$1: not readable"
+}
+
+# Makes the FILE that the command's arguments name its standard input, where they name one.
+take_input() {
+    take_options "$@"
+    set -- ${arguments[@]+"${arguments[@]}"}
+    [ $# -le 1 ] || misused "one FILE at a time"
     if [ $# -eq 1 ]; then
-        [ -e "$1" ] || fail "$1: no such file"
-        [ ! -d "$1" ] || fail "$1: a directory"
-        [ -r "$1" ] || fail "$1: not readable"
+        check_file "$1"
         exec <"$1" || fail "$1: not readable"
     elif ! { : 3<&0; } 2>/dev/null; then
         # the program would read from the pipe that it writes to
@@ -58,10 +69,10 @@ take_input() {
     fi
 }
 
-# Puts what the program prints into `printed`, without the line end behind it.
+# Puts what the program prints for these arguments into `printed`, without the line end behind it.
 run_program() {
     is_built || build </dev/null
-    printed=$("$program") || fail "the program could not be run"
+    printed=$("$program" "$@") || fail "the program could not be run"
 }
 
 # Prints what the program printed, with the line end behind it.

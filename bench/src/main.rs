@@ -1,8 +1,9 @@
 //! The library beside the fastest of zlib, plain C, plain Rust, Rust's standard
 //! library and the independent reader and writers, and beside memcpy of what it
-//! writes; for columns also beside its own single calls.
+//! writes; for columns and reports also beside its own other calls.
 
 mod columns;
+mod figures;
 mod listers;
 mod writers;
 
@@ -871,6 +872,9 @@ fn main() -> ExitCode {
     );
     println!("plane at a time (\"Rust\") or an element at a time (\"Rust, zip\"), and the independent decoder of pages (\"Rust");
     println!("pages\"); in a line of its own, the library's single call for each page (\"single\").");
+    println!("For counts of true elements the other is a Rust loop over 64-bit words, with the same checks (\"Rust\") or, in a line of its");
+    println!("own, without them (\"bare\"). For reports the others read the list by the independent reader and sum up its pages (\"Rust\"),");
+    println!("or, in a line of its own, by the library's reader (\"read, sum\").");
     println!("For listings the others read the header likewise (\"read, list\": by the library), gather the children of each field and");
     println!("write the lines into the lent bytes, or make them elsewhere and copy them (\"Rust draft\").");
     println!();
@@ -890,5 +894,6 @@ fn main() -> ExitCode {
     written_envelopes(&mut random);
     listings(&mut random);
     columns::lines(&mut random);
+    figures::lines(&mut random);
     ExitCode::SUCCESS
 }

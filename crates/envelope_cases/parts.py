@@ -1,4 +1,5 @@
-"""The parts of an envelope, and the files of a program that runs cases: for envelope_cases, write_cases, list_cases and column_cases."""
+"""The parts of an envelope, and the files of a program that runs cases: for envelope_cases, write_cases, list_cases, column_cases, figure_cases
+and figures."""
 
 import os
 import shutil

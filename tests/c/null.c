@@ -1,5 +1,5 @@
 /* Null pointers with count 0: every call takes them wherever nothing need be read or written; moves along chains; envelopes written
-   and read back; listings of fields; columns; and the constants of the header. */
+   and read back; listings of fields; columns; reports of page lists; counts of true elements; and the constants of the header. */
 #include "rntuple_check.h"
 #include <stdio.h>
 #include <string.h>
@@ -503,6 +503,8 @@ static void constants(void) {
     same("words of a cluster row", RNT_CLUSTER_WORDS, 5);
     same("words of a row of a column's pages", RNT_COLUMN_PAGE_WORDS, 4);
     same("most pages of a column", RNT_MOST_COLUMN_PAGES, 256);
+    same("words of a row of a report", RNT_FIGURE_WORDS, 4);
+    same("most lists of a report", RNT_MOST_LISTS, 1024);
     same("no checksum", RNT_NO_CHECKSUM, (uint64_t)UINT32_MAX + 1);
     same("bytes of no checksum", sizeof RNT_NO_CHECKSUM, sizeof(uint64_t));
 }
@@ -645,6 +647,177 @@ static void decoded_columns(void) {
     refused_columns();
 }
 
+/* A page list that is handed to a report, with its numbers. */
+struct handed {
+    const uint8_t *header;
+    size_t header_length;
+    const uint8_t *list;
+    size_t list_length;
+    uint64_t entries, file_length;
+};
+
+/* The words of a report under the full header, and some behind them; and what the full page list adds. */
+#define REPORT_WORDS (2 * RNT_FIGURE_WORDS)
+#define REPORT_ROOM (REPORT_WORDS + 6)
+static const uint64_t list_figures[REPORT_WORDS] = {2, 10, 3, 1, 1, 2, 8, 0};
+
+/* What is due of one call on a report that begins with these words, for results of any length: the answer, and the counts. The figures are
+   added where it accepts, and nothing else is changed. */
+static void reported(const char *name, const struct handed *handed, const uint64_t *begin, size_t room, uint64_t accepted, uint64_t refused,
+                     uint32_t answer) {
+    uint64_t result[4], report[REPORT_ROOM];
+    int reader = answer != 0 && answer != 768 + 10 && answer != 768 + 20;
+    for (size_t words = 0; words <= 4; words++) {
+        for (int i = 0; i < 4; i++) result[i] = 9;
+        memcpy(report, begin, sizeof report);
+        same(name, rnt_report_page_list(handed->header, handed->header_length, handed->list, handed->list_length, handed->entries,
+                                        handed->file_length, accepted, refused, room ? report : NULL, room, words ? result : NULL, words),
+             words < 2 ? RNT_RESULT_TOO_SHORT : answer);
+        same("accepted lists", result[0], words < 2 ? 9 : accepted + (answer == 0));
+        same("refused lists", result[1], words < 2 ? 9 : refused + (uint64_t)reader);
+        same("words behind the result of a report", result[2] + result[3], 18);
+        size_t used = words >= 2 && answer == 0 ? REPORT_WORDS : 0;
+        for (size_t i = 0; i < REPORT_ROOM; i++) same("a word of a report", report[i], begin[i] + (i < used ? list_figures[i] : 0));
+    }
+}
+
+/* The counts of a report that takes no further list, and of those that take one. */
+static void report_counts(const struct handed *handed, const struct handed *nothing, const uint64_t *begin) {
+    const uint64_t most = RNT_MOST_LISTS, half = UINT64_C(1) << 63, all = UINT64_MAX;
+    const uint64_t taken[][2] = {{0, 0}, {most - 1, 0}, {0, most - 1}, {500, 523}};
+    const uint64_t full_counts[][2] = {{most, 0},      {0, most}, {512, 512}, {1000, 25},        {all, 0},
+                                       {0, all},       {all, 1},  {1, all},   {half, half},      {all, all},
+                                       {all - 1, 2},   {all, 1024}, {UINT64_C(1) << 32, 0}, {UINT64_C(1) << 32, half}};
+    struct handed other = *handed;
+    other.entries++;
+    for (size_t i = 0; i < sizeof taken / sizeof *taken; i++) {
+        reported("a list", handed, begin, REPORT_WORDS, taken[i][0], taken[i][1], 0);
+        reported("a list of other entries", &other, begin, REPORT_WORDS, taken[i][0], taken[i][1], 768 + 19);
+        reported("a list without rows", handed, begin, 0, taken[i][0], taken[i][1], 768 + 20);
+    }
+    for (size_t i = 0; i < sizeof full_counts / sizeof *full_counts; i++) {
+        reported("a list too many", handed, begin, REPORT_WORDS, full_counts[i][0], full_counts[i][1], 768 + 10);
+        reported("a refused list too many", &other, begin, REPORT_WORDS, full_counts[i][0], full_counts[i][1], 768 + 10);
+        reported("nothing too many", nothing, begin, 0, full_counts[i][0], full_counts[i][1], 768 + 10);
+    }
+}
+
+/* Each figure right before its end, at it, and past it. */
+static void report_ends(const struct handed *handed, const struct handed *damaged) {
+    for (size_t i = 0; i < REPORT_WORDS; i++) {
+        uint64_t begin[REPORT_ROOM] = {0};
+        for (size_t k = REPORT_WORDS; k < REPORT_ROOM; k++) begin[k] = UINT64_MAX;
+        begin[i] = UINT64_MAX - list_figures[i];
+        reported("a figure at its end", handed, begin, REPORT_WORDS, 3, 4, 0);
+        reported("words behind the rows", handed, begin, REPORT_ROOM, 3, 4, 0);
+        if (list_figures[i] == 0) continue;
+        begin[i]++;
+        reported("a figure past its end", handed, begin, REPORT_WORDS, 3, 4, 768 + 10);
+        reported("a figure far past its end", handed, begin, REPORT_ROOM, 3, 4, 768 + 10);
+        reported("too few rows before a figure's end", handed, begin, REPORT_WORDS - 1, 3, 4, 768 + 20);
+        reported("a damaged list before a figure's end", damaged, begin, REPORT_WORDS, 3, 4, 768 + 3);
+    }
+}
+
+/* A report from zeros with as many lists as it takes, every third of them damaged. */
+static void full_report(const struct handed *handed, const struct handed *damaged) {
+    uint64_t counts[2] = {0, 0}, report[REPORT_ROOM] = {0};
+    for (uint64_t i = 0; i <= RNT_MOST_LISTS; i++) {
+        const struct handed *own = i % 3 == 2 ? damaged : handed;
+        uint32_t due = i == RNT_MOST_LISTS ? 768 + 10 : i % 3 == 2 ? 768 + 3 : 0;
+        same("a list of many", rnt_report_page_list(own->header, own->header_length, own->list, own->list_length, own->entries, own->file_length,
+                                                    counts[0], counts[1], report, REPORT_ROOM, counts, 2), due);
+    }
+    same("many accepted lists", counts[0], 683);
+    same("many refused lists", counts[1], 341);
+    for (size_t i = 0; i < REPORT_ROOM; i++) same("a figure of many lists", report[i], i < REPORT_WORDS ? 683 * list_figures[i] : 0);
+}
+
+static void reports(void) {
+    uint64_t result[2], begin[REPORT_ROOM];
+    uint8_t own[256], wrong[256];
+    for (size_t i = 0; i < REPORT_ROOM; i++) begin[i] = 1000 * i;
+    same("a report without anything", rnt_report_page_list(NULL, 0, NULL, 0, 0, 0, 0, 0, NULL, 0, NULL, 0), RNT_RESULT_TOO_SHORT);
+    same("a report of no columns", rnt_report_page_list(header, sizeof header, page_list, sizeof page_list, 0, 0, 7, 8, NULL, 0, result, 2), 0);
+    same("a report of no columns, its counts", (result[0] == 8) & (result[1] == 8), 1);
+
+    same("writing a page list to report", full_page_list(sizeof out, result, 1), 0);
+    size_t length = (size_t)result[0];
+    memcpy(own, out, length);
+    memcpy(wrong, own, length);
+    wrong[length - 5] ^= 1;
+    const struct handed right = {full, full_length, own, length, 10, 100}, damaged = {full, full_length, wrong, length, 10, 100};
+    const struct handed no_list = {full, full_length, NULL, 0, 10, 100}, nothing = {NULL, 0, NULL, 0, 0, 0};
+    const struct handed short_file = {full, full_length, own, length, 10, 99}, other_header = {header, sizeof header, own, length, 10, 100};
+    for (size_t room = 0; room <= REPORT_ROOM; room++) {
+        reported("a report of any length", &right, begin, room, 5, 6, room < REPORT_WORDS ? 768 + 20 : 0);
+        reported("a damaged list", &damaged, begin, room, 5, 6, 768 + 3);
+        reported("no list", &no_list, begin, room, 5, 6, 768 + 2);
+        reported("no header and no list", &nothing, begin, room, 5, 6, 256 + 2);
+        reported("a shorter file", &short_file, begin, room, 5, 6, 768 + 18);
+        reported("another header", &other_header, begin, room, 5, 6, 768 + 19);
+    }
+    report_counts(&right, &nothing, begin);
+    report_ends(&right, &damaged);
+    full_report(&right, &damaged);
+}
+
+/* What is due of a count of true elements, for results of any length. */
+static void counted(const char *name, uint64_t elements, uint32_t checksum, const uint8_t *page, size_t length, uint32_t answer, uint64_t count) {
+    uint64_t result[3];
+    for (size_t words = 0; words <= 3; words++) {
+        result[0] = result[1] = result[2] = 9;
+        same(name, rnt_count_true(elements, checksum, page, length, words ? result : NULL, words), words == 0 ? RNT_RESULT_TOO_SHORT : answer);
+        same("true elements", result[0], words == 0 ? 9 : count);
+        same("words behind the true elements", result[1] + result[2], 18);
+    }
+}
+
+/* So many elements that are all true, with unused bits that are not set, with the checksum behind them; gives the bytes without it. */
+static uint8_t ones[RNT_MOST_ELEMENTS / 8 + 8];
+
+static size_t fill_ones(uint64_t elements) {
+    size_t length = (size_t)((elements + 7) / 8);
+    memset(ones, 0xFF, sizeof ones);
+    if (elements % 8) ones[length - 1] = (uint8_t)((1 << elements % 8) - 1);
+    put(ones + length, rnt_crc32(ones, length));
+    return length;
+}
+
+static void counts(void) {
+    static const uint32_t checksums[] = {1, 2, 256, 0x10000, 0x80000000, UINT32_MAX};
+    static const uint64_t lengths[] = {1, 7, 8, 9, 55, 56, 57, 63, 64, 65, 71, 72, 73, 127, 128, 129, 1000, RNT_MOST_ELEMENTS - 1, RNT_MOST_ELEMENTS};
+    static const uint64_t too_many[] = {RNT_MOST_ELEMENTS + 1, UINT64_C(1) << 32, (UINT64_C(1) << 32) + 8, UINT64_MAX - 7, UINT64_MAX};
+    counted("no elements", 0, 0, NULL, 0, 0, 0);
+    counted("no elements and no checksum", 0, 1, NULL, 0, 1024 + 21, 0);
+    counted("one element of no bytes", 1, 0, NULL, 0, 1024 + 21, 0);
+    counted("true, seven false, true", 9, 0, (const uint8_t *)"\1\1", 2, 0, 2);
+    counted("an unused bit", 9, 0, (const uint8_t *)"\1\3", 2, 1024 + 24, 0);
+    counted("the checksum of nothing", 0, 1, (const uint8_t *)"\0\0\0\0", 4, 0, 0);
+    for (size_t i = 0; i < sizeof lengths / sizeof *lengths; i++) {
+        uint64_t elements = lengths[i];
+        size_t length = fill_ones(elements);
+        counted("all true", elements, 0, ones, length, 0, elements);
+        for (size_t k = 0; k < sizeof checksums / sizeof *checksums; k++) counted("all true, with a checksum", elements, checksums[k], ones, length + 4, 0, elements);
+        counted("a byte too few", elements, 0, ones, length - 1, 1024 + 21, 0);
+        counted("a byte too many", elements, 0, ones, length + 1, 1024 + 21, 0);
+        counted("check bytes that are not asked for", elements, 0, ones, length + 4, 1024 + 21, 0);
+        counted("no check bytes", elements, 1, ones, length, 1024 + 21, 0);
+        ones[length / 2] ^= 1;
+        counted("another checksum", elements, 1, ones, length + 4, 1024 + 22, 0);
+        counted("one of them false", elements, 0, ones, length, 0, elements - 1);
+        if (elements % 8 == 0) continue;
+        ones[length - 1] |= 0x80;
+        counted("another checksum and an unused bit", elements, 1, ones, length + 4, 1024 + 22, 0);
+        put(ones + length, rnt_crc32(ones, length));
+        counted("an unused bit under a checksum", elements, 1, ones, length + 4, 1024 + 24, 0);
+    }
+    for (size_t i = 0; i < sizeof too_many / sizeof *too_many; i++) {
+        counted("too many elements", too_many[i], 0, ones, RNT_MOST_ELEMENTS / 8 + 1, 1024 + 10, 0);
+        counted("too many elements of no bytes", too_many[i], 1, NULL, 0, 1024 + 10, 0);
+    }
+}
+
 int main(void) {
     same("checksum of nothing", rnt_crc32(NULL, 0), 0);
     same("UTF-8 of nothing", rnt_is_utf8(NULL, 0), 1);
@@ -660,6 +833,8 @@ int main(void) {
     listings();
     pages();
     decoded_columns();
+    reports();
+    counts();
     constants();
     printf("%d passed, %d failed\n", passed, failed);
     return failed != 0;

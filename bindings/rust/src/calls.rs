@@ -1,7 +1,7 @@
 //! The C calls with slices for pointers and lengths.
 
 use crate::most;
-use crate::refusal::{ColumnRefusal, Refusal};
+use crate::refusal::{ColumnRefusal, Refusal, ReportRefusal};
 use crate::rows::{text, Alias, Cluster, Column, ColumnPage, Field, Link, Page, Table};
 
 mod c {
@@ -62,6 +62,20 @@ mod c {
             file_length: u64,
             pages: *mut u64,
             page_words: usize,
+            result: *mut u64,
+            result_words: usize,
+        ) -> u32;
+        pub fn rnt_report_page_list(
+            header: *const u8,
+            header_length: usize,
+            page_list: *const u8,
+            page_list_length: usize,
+            entries: u64,
+            file_length: u64,
+            accepted: u64,
+            refused: u64,
+            report: *mut u64,
+            report_words: usize,
             result: *mut u64,
             result_words: usize,
         ) -> u32;
@@ -126,6 +140,14 @@ mod c {
             file_length: usize,
             words: *mut u64,
             word_count: usize,
+            result: *mut u64,
+            result_words: usize,
+        ) -> u32;
+        pub fn rnt_count_true(
+            elements: u64,
+            checksum: u32,
+            page: *const u8,
+            page_length: usize,
             result: *mut u64,
             result_words: usize,
         ) -> u32;
@@ -401,6 +423,83 @@ pub fn read_paired_page_list<'a>(
     })
 }
 
+/// How many page lists a report has taken: those accepted, and those refused.
+#[derive(Clone, Copy, Debug, Default, PartialEq, Eq, Hash)]
+pub struct ListCounts {
+    pub accepted: u64,
+    pub refused: u64,
+}
+
+/// Adds the figures of a page list to a report, whose rows have 4 words for each
+/// column of the header: pages, elements, stored sizes without checksums, and pages
+/// with a checksum. [`Report`](crate::Report) keeps the words and the counts.
+///
+/// A report is begun with zeros and with the counts 0 and 0. After that `lists` are
+/// the counts that the call before gave, on acceptance or with its refusal, and
+/// every call has the same header. The figures are then exact sums over the accepted
+/// lists, in whatever order the lists come.
+///
+/// Refused are, in this order: a list too many, when the report has taken 1,024,
+/// refused ones too ([`Reason::CountAboveCeiling`](crate::Reason::CountAboveCeiling));
+/// what [`read_page_list`] refuses with room enough, which alone is counted as a
+/// refused list; a report with fewer rows than the header has columns
+/// ([`Reason::RoomTooSmall`](crate::Reason::RoomTooSmall)); and a figure that would
+/// pass 64 bits ([`Reason::CountAboveCeiling`](crate::Reason::CountAboveCeiling)). A
+/// refusal changes nothing of the report. Words behind the rows of the header's
+/// columns stay.
+///
+/// ```
+/// use rntuple_check::{report_page_list, ListCounts, Reason};
+///
+/// let header = include_bytes!("../../../examples/fields.header");
+/// let list = include_bytes!("../../../examples/fields.pagelist");
+/// // Four columns.
+/// let mut report = [0; 16];
+/// let lists = report_page_list(header, list, 3, 4_096, ListCounts::default(), &mut report)?;
+/// assert_eq!(lists, ListCounts { accepted: 1, refused: 0 });
+/// assert_eq!(report[..4], [1, 3, 12, 1]);
+///
+/// // Its elements are not four: the list is counted, and adds nothing.
+/// let refused = report_page_list(header, list, 4, 4_096, lists, &mut report).unwrap_err();
+/// assert_eq!(refused.refusal.reason, Reason::CountsDisagree);
+/// assert_eq!(refused.lists, ListCounts { accepted: 1, refused: 1 });
+/// assert_eq!(report[..4], [1, 3, 12, 1]);
+/// # Ok::<(), rntuple_check::ReportRefusal>(())
+/// ```
+pub fn report_page_list(
+    header: &[u8],
+    page_list: &[u8],
+    entries: u64,
+    file_length: u64,
+    lists: ListCounts,
+    report: &mut [u64],
+) -> Result<ListCounts, ReportRefusal> {
+    let mut result = [0; 2];
+    // SAFETY: see above.
+    let answer = unsafe {
+        c::rnt_report_page_list(
+            header.as_ptr(),
+            header.len(),
+            page_list.as_ptr(),
+            page_list.len(),
+            entries,
+            file_length,
+            lists.accepted,
+            lists.refused,
+            report.as_mut_ptr(),
+            report.len(),
+            result.as_mut_ptr(),
+            result.len(),
+        )
+    };
+    let [accepted, refused] = result;
+    let lists = ListCounts { accepted, refused };
+    match Refusal::of(answer) {
+        None => Ok(lists),
+        Some(refusal) => Err(ReportRefusal { refusal, lists }),
+    }
+}
+
 /// Writes a header from tables as [`read_header`] leaves them, rows of 15, 4 and
 /// 2 words, into the first bytes of `out`, and gives the bytes written. The
 /// strings of the rows and of `texts` stand in `strings`, anywhere and in any
@@ -618,6 +717,35 @@ pub fn decode_column<'a>(
     accepted(answer).map_err(|refusal| ColumnRefusal { refusal, index })?;
     let elements = pages.iter().map(|page| page.elements).sum();
     Ok(&mut words[..elements])
+}
+
+/// How many elements of a Bit page are true; the page includes its checksum where
+/// one follows. What [`decode_page`] refuses of such a page, with room enough, is
+/// refused.
+///
+/// ```
+/// use rntuple_check::{count_true, Reason};
+///
+/// // True, seven false, true.
+/// assert_eq!(count_true(9, false, &[0x01, 0x01])?, 2);
+/// let refusal = count_true(9, false, &[0x01, 0x03]).unwrap_err();
+/// assert_eq!(refusal.reason, Reason::UnusedBitsSet);
+/// # Ok::<(), rntuple_check::Refusal>(())
+/// ```
+pub fn count_true(elements: usize, checksum: bool, page: &[u8]) -> Result<usize, Refusal> {
+    let mut result = [0; 1];
+    // SAFETY: see above.
+    accepted(unsafe {
+        c::rnt_count_true(
+            elements as u64,
+            checksum.into(),
+            page.as_ptr(),
+            page.len(),
+            result.as_mut_ptr(),
+            result.len(),
+        )
+    })?;
+    Ok(result[0] as usize)
 }
 
 /// Encodes so many elements, from `start` on, into the first bytes of the lent

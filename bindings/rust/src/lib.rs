@@ -3,8 +3,9 @@
 //!
 //! The functions of this crate take the memory that is written as slices, as
 //! the library does. [`HeaderRoom`], [`FooterRoom`], [`PageListRoom`],
-//! [`decode`], [`encode`], [`new_listing`], [`new_header`], [`new_footer`] and
-//! [`new_page_list`] make that memory, of a size that is never too small.
+//! [`Report`], [`decode`], [`encode`], [`new_listing`], [`new_header`],
+//! [`new_footer`] and [`new_page_list`] make that memory, of a size that is never
+//! too small.
 //!
 //! ```
 //! use rntuple_check::{HeaderRoom, Reason};
@@ -64,6 +65,23 @@
 //! # Ok::<(), rntuple_check::Refusal>(())
 //! ```
 //!
+//! A report sums up the page lists of a header, column by column:
+//!
+//! ```
+//! use rntuple_check::{Figures, ListCounts, Report};
+//!
+//! let header = include_bytes!("../../../examples/fields.header");
+//! let list = include_bytes!("../../../examples/fields.pagelist");
+//! let mut report = Report::full();
+//! report.add(header, list, 3, 4_096)?;
+//! report.add(header, b"no page list", 3, 4_096).unwrap_err();
+//! report.add(header, list, 3, 4_096)?;
+//! assert_eq!(report.lists(), ListCounts { accepted: 2, refused: 1 });
+//! let first = Figures { pages: 2, elements: 6, stored_size: 24, pages_with_checksum: 2 };
+//! assert_eq!(report.figures().get(0), Some(first));
+//! # Ok::<(), rntuple_check::Refusal>(())
+//! ```
+//!
 //! What is proved is the library: its answers and all that it writes. This
 //! crate is tested. The rules are in `docs/PROFILE.md`.
 
@@ -73,18 +91,19 @@ mod room;
 mod rows;
 
 pub use calls::{
-    crc32, decode_column, decode_page, encode_page, is_utf8, list_fields, parent_moves, read_footer, read_header,
-    read_page_list, read_paired_page_list, write_footer, write_header, write_page_list, Footer, Header, HeaderTexts,
-    PageList, Text,
+    count_true, crc32, decode_column, decode_page, encode_page, is_utf8, list_fields, parent_moves, read_footer,
+    read_header, read_page_list, read_paired_page_list, report_page_list, write_footer, write_header, write_page_list,
+    Footer, Header, HeaderTexts, ListCounts, PageList, Text,
 };
-pub use refusal::{ColumnRefusal, Envelope, Reason, Refusal};
+pub use refusal::{ColumnRefusal, Envelope, Reason, Refusal, ReportRefusal};
 pub use room::{
-    decode, encode, new_footer, new_header, new_listing, new_page_list, FooterRoom, HeaderRoom, PageListRoom,
+    decode, encode, new_footer, new_header, new_listing, new_page_list, FooterRoom, HeaderRoom, PageListRoom, Report,
 };
-pub use rows::{Alias, Cluster, Column, ColumnNumber, ColumnPage, Field, FieldNumber, Link, Page, Row, Table};
+pub use rows::{Alias, Cluster, Column, ColumnNumber, ColumnPage, Field, FieldNumber, Figures, Link, Page, Row, Table};
 
 /// The most bytes and rows that an accepted envelope can have, the most elements
-/// of one page, and the most pages of one column call.
+/// of one page, the most pages of one column call, and the most page lists of one
+/// report.
 pub mod most {
     pub const BYTES: usize = 1_048_576;
     pub const FIELDS: usize = 512;
@@ -95,4 +114,5 @@ pub mod most {
     pub const PAGES: usize = 16_384;
     pub const ELEMENTS: usize = 131_072;
     pub const COLUMN_PAGES: usize = 256;
+    pub const LISTS: usize = 1_024;
 }

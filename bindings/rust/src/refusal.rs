@@ -1,5 +1,6 @@
 //! What is refused, and why.
 
+use crate::calls::ListCounts;
 use crate::most;
 use std::error::Error;
 use std::fmt;
@@ -149,6 +150,28 @@ impl fmt::Display for ColumnRefusal {
 }
 
 impl Error for ColumnRefusal {
+    fn source(&self) -> Option<&(dyn Error + 'static)> {
+        Some(&self.refusal)
+    }
+}
+
+/// A page list that a report does not take: the figures are as they were.
+#[derive(Clone, Copy, Debug, PartialEq, Eq, Hash)]
+pub struct ReportRefusal {
+    pub refusal: Refusal,
+    /// The counts afterwards, which the next call takes. The list is among the
+    /// refused ones where the reader refuses it, and counted nowhere otherwise.
+    pub lists: ListCounts,
+}
+
+impl fmt::Display for ReportRefusal {
+    fn fmt(&self, f: &mut fmt::Formatter) -> fmt::Result {
+        let ListCounts { accepted, refused } = self.lists;
+        write!(f, "{}; lists accepted {accepted}, refused {refused}", self.refusal)
+    }
+}
+
+impl Error for ReportRefusal {
     fn source(&self) -> Option<&(dyn Error + 'static)> {
         Some(&self.refusal)
     }

@@ -2,11 +2,12 @@
 
 use crate::calls::{
     decode_page, encode_page, list_fields, parent_moves, read_footer, read_header, read_page_list,
-    read_paired_page_list, write_footer, write_header, write_page_list, Footer, Header, HeaderTexts, PageList,
+    read_paired_page_list, report_page_list, write_footer, write_header, write_page_list, Footer, Header, HeaderTexts,
+    ListCounts, PageList,
 };
 use crate::most;
 use crate::refusal::Refusal;
-use crate::rows::{add, Alias, Cluster, Column, Field, Link, Page, Row};
+use crate::rows::{add, Alias, Cluster, Column, Field, Figures, Link, Page, Row, Table};
 
 fn table<'a, R: Row<'a>>(rows: usize) -> Vec<u64> {
     vec![0; rows * R::WORDS]
@@ -86,6 +87,47 @@ impl PageListRoom {
         file_length: u64,
     ) -> Result<PageList<'_>, Refusal> {
         read_paired_page_list(header, page_list, cluster, file_length, &mut self.pages)
+    }
+}
+
+/// A report over page lists under one header: the figures of its columns, and how
+/// many lists it has taken. With rows for as many columns as there can be it is
+/// never too small.
+#[derive(Clone, Debug, PartialEq, Eq)]
+pub struct Report {
+    words: Vec<u64>,
+    lists: ListCounts,
+}
+
+impl Report {
+    /// A report that has taken no list yet, all its figures 0.
+    pub fn full() -> Self {
+        Report {
+            words: table::<Figures>(most::COLUMNS),
+            lists: ListCounts::default(),
+        }
+    }
+
+    /// Adds a page list under the report's header, which has to be the same every
+    /// time. A refused list adds nothing. See [`report_page_list`].
+    pub fn add(&mut self, header: &[u8], page_list: &[u8], entries: u64, file_length: u64) -> Result<(), Refusal> {
+        let added = report_page_list(header, page_list, entries, file_length, self.lists, &mut self.words);
+        let (lists, answer) = match added {
+            Ok(lists) => (lists, Ok(())),
+            Err(refused) => (refused.lists, Err(refused.refusal)),
+        };
+        self.lists = lists;
+        answer
+    }
+
+    pub fn lists(&self) -> ListCounts {
+        self.lists
+    }
+
+    /// The figures of each column; 0 in the rows behind those of the header's
+    /// columns.
+    pub fn figures(&self) -> Table<'_, Figures> {
+        Table::first(most::COLUMNS as u64, &self.words, &[])
     }
 }
 

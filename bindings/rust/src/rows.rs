@@ -90,6 +90,16 @@ pub struct Page {
     pub offset: u64,
 }
 
+/// What a report says of a column: sums over the page lists that were accepted.
+#[derive(Clone, Copy, Debug, Default, PartialEq, Eq)]
+pub struct Figures {
+    pub pages: u64,
+    pub elements: u64,
+    /// The sizes of all pages in bytes, without their checksums.
+    pub stored_size: u64,
+    pub pages_with_checksum: u64,
+}
+
 /// A page of a column that is to be decoded, in a part of a file.
 #[derive(Clone, Copy, Debug, PartialEq, Eq)]
 pub struct ColumnPage {
@@ -287,6 +297,19 @@ impl<'a> Row<'a> for Page {
             checksum: words[2] != 0,
             size: words[3],
             offset: words[4],
+        }
+    }
+}
+
+impl<'a> Row<'a> for Figures {
+    const WORDS: usize = 4;
+
+    fn of(words: &[u64], _: &'a [u8]) -> Self {
+        Figures {
+            pages: words[0],
+            elements: words[1],
+            stored_size: words[2],
+            pages_with_checksum: words[3],
         }
     }
 }

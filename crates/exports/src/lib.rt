@@ -13,6 +13,9 @@ ghost use Rattle.envelope_calls.specs.Calls.{HeaderCall, MovesCall, FooterCall,
 ghost use Rattle.list_calls.specs.Calls.{ListCall};
 ghost use Rattle.write_calls.specs.Calls.{WriteCall, textsAt};
 ghost use Rattle.page_calls.specs.Calls.{EncodeCall, ColumnCall};
+ghost use Rattle.true_count.specs.True.{countOutcome};
+ghost use Rattle.figure_calls.specs.Calls.{ReportCall};
+ghost use Rattle.answers.specs.Handed.{Tells};
 ghost use Rattle.exports.specs.Calls.{BytesCall, isUtf8};
 
 #[no_mangle]
@@ -208,4 +211,41 @@ pub extern "C" fn rnt_decode_column(
     ensures { λ r. ⌜ ColumnCall «column_type» (now (pages .entry)) (now (file .entry)) (now (words .entry)) (now (words .exit)) (now (result .entry)) (now (result .exit)) r ⌝ }
 {
     page_calls::decode_column(column_type, pages, file, words, result)
+}
+
+#[no_mangle]
+pub extern "C" fn rnt_report_page_list(
+    header: &[u8],
+    page_list: &[u8],
+    entries: u64,
+    file_length: u64,
+    accepted: u64,
+    refused: u64,
+    report: &mut [u64],
+    result: &mut [u64],
+) -> u32
+    ensures { λ r. ⌜ ReportCall (pageListBeside (now (header .entry)) (now («page_list» .entry)) entries «file_length») accepted refused (now (report .entry)) (now (report .exit)) (now (result .entry)) (now (result .exit)) r ⌝ }
+{
+    figure_calls::report_page_list(
+        header,
+        page_list,
+        entries,
+        file_length,
+        accepted,
+        refused,
+        report,
+        result,
+    )
+}
+
+#[no_mangle]
+pub extern "C" fn rnt_count_true(
+    elements: u64,
+    checksum: u32,
+    page: &[u8],
+    result: &mut [u64],
+) -> u32
+    ensures { λ r. ⌜ Tells 1 (countOutcome elements (asks checksum) (now (page .entry))) (now (result .entry)) (now (result .exit)) r ⌝ }
+{
+    figure_calls::count_true(elements, checksum, page, result)
 }

@@ -8,7 +8,6 @@ use lib.Dec.{ltb, leb}
 use Rattle.numbers.specs.Choice.{pick, both}
 use Rattle.numbers.specs.Rows.{flat}
 use Rattle.outcome.specs.Outcome.{Outcome, acceptedWith}
-use Rattle.wire.specs.declared.Fault.{Fault}
 use Rattle.header.specs.Beside.{Beside, read, refusal}
 use Rattle.rows.specs.Words.{bit}
 use Rattle.rows.specs.declared.PageRow.{PageRow}

@@ -1,4 +1,4 @@
--- Demand 3 for the page-list reader.
+-- Demand 3 for the page-list reader, and for a report over page lists.
 use Prim.Native.Nat.{ℕ, _≤_}
 use mathlib.Core.List.{List, map}
 use mathlib.Core.Path.{_≡_, refl, sym, ap, _∙_, subst}
@@ -8,7 +8,7 @@ use Rattle.outcome.specs.Outcome.{isAccepted}
 use Rattle.envelope.specs.Envelope.{ceiling, envelope}
 use Rattle.header.specs.Header.{Header}
 use Rattle.header.specs.Tables.{headerOf}
-use Rattle.header.specs.Beside.{read}
+use Rattle.header.specs.Beside.{Beside, read}
 use Rattle.rows.specs.declared.ColumnRow.{ColumnRow}
 use Rattle.column_pages.specs.ColumnPages.{bitsOf, payload}
 use Rattle.totals.specs.declared.Totals.the-variants.{Agree}
@@ -16,18 +16,21 @@ use Rattle.page_list.specs.PageList.{totalsOf, summed, pageListOf}
 use Rattle.page_list.specs.Tables.{pageListBeside, answer, outcomeOf, written}
 use Rattle.rows.specs.declared.PageRow.{PageRow}
 use Rattle.page_list.specs.declared.PageListAnswer.{PageListAnswer}
+use Rattle.figure_rules.specs.Report.{reported}
 use Rattle.tree.specs.Bytes.{Bytes}
 use Rattle.tree.specs.EnvelopeTree.{unsummed}
-use Rattle.tree.specs.HeaderTree.{HeaderContent, headerContent, renderHeader, tablesOf}
+use Rattle.tree.specs.HeaderTree.{HeaderContent, HeaderTree, headerContent, renderHeader, tablesOf}
 use Rattle.tree.specs.PageListTree.{PageContent, PageListPayload, pageListCarrier, pageListShape, pageRows, PageListTree, renderPageList}
 use Rattle.tree.proofs.PageListLaws.{summed-found, page-list-render, page-list-complete, page-list-sound, page-list-known}
 use Rattle.tree.proofs.HeaderLaws.{tables-known}
 use Rattle.tree.proofs.TreeUnique.{page-list-unique}
 use Rattle.forward.specs.Extension.{GrownList, GrownFrame}
+use Rattle.forward.specs.HeaderForward.{ChosenHeader, TheHeader}
 use Rattle.forward.specs.ReadersForward.{ChosenPageList, ThePageList, PageListForward}
+use Rattle.forward.specs.ReportForward.{ReportForward}
 use Rattle.forward.proofs.Extending.{grown-each, grown-right}
 use Rattle.forward.proofs.HeaderForward.{the-header, still-read}
-use Rattle.header.proofs.Besides.{both-read-is}
+use Rattle.header.proofs.Besides.{both-read, both-read-is}
 use Rattle.tree.proofs.Accepted.{pages-read, totals-by}
 
 grown-page-list : (old new : PageListPayload) → GrownList GrownFrame old new → pageListCarrier .content old ≡ pageListCarrier .content new
@@ -75,14 +78,18 @@ listed-beside e e′ h h′ entries file l pages p same total reads =
     let total′ : totalsOf entries (h′ .lists) pages ≡ Agree = totals-tables e e′ h h′ entries pages same ∙ total in
     ap (summed entries (h′ .lists)) reads′ ∙ rw total′ refl
 
--- demand 3 for the page-list reader
-pub page-list-forward : PageListForward
+-- extensions of a header and a page list that were read beside each other read the same
+pub record SamePages (e l : List ℕ) (entries file : ℕ) : Type 0 where
+  pub header : TheHeader e
+  pub pageList : ThePageList file (bitsOf (tablesOf (header .tree) .columns)) l
+  pub same : (t : HeaderTree) (u : PageListTree) → ChosenHeader (header .tree) t → ChosenPageList (pageList .tree) u
+      → length (renderHeader t) ≤ ceiling → length (renderPageList u) ≤ ceiling
+      → pageListBeside (renderHeader t) (renderPageList u) entries file ≡ pageListBeside e l entries file
+
+pub same-pages : (e l : List ℕ) (entries file : ℕ) (pages : List (List PageRow)) → Bytes e → Bytes l → pageListBeside e l entries file ≡ read pages → SamePages e l entries file
 unfolding pageListBeside pageListOf headerContent
-page-list-forward e l entries file p₀ p count bytes bytes′ call =
-    let k = pages-read e l entries file (length p₀) (sym (ap (λ (y : PageListAnswer). isAccepted (outcomeOf y)) (call .answers))) in
-    let pages = k .pages in
-    let is = k .is in
-    let b = k .both in
+same-pages e l entries file pages bytes bytes′ is =
+    let b = both-read 3 (λ h. pageListOf h entries file l) (headerOf e) pages is in
     let h = b .header in
     let header = the-header e h (b .place) bytes (b .reads) in
     let columns : h .lists .columns ≡ tablesOf (header .tree) .columns = ap (λ (c : HeaderContent). c .columns) (tables-known (header .tree) (header .right) e h (b .place) (header .bytes) (b .reads)) in
@@ -91,7 +98,7 @@ page-list-forward e l entries file p₀ p count bytes bytes′ call =
     record {
       header = header;
       pageList = subst (λ (c : List ColumnRow). ThePageList file (bitsOf c) l) columns list;
-      forward = λ t u ch ch′ small small′ p′ r′ call′.
+      same = λ t u ch ch′ small small′.
           let e′ = renderHeader t in
           let l′ = renderPageList u in
           let still = still-read e h (b .place) (b .reads) header t ch small in
@@ -99,7 +106,28 @@ page-list-forward e l entries file p₀ p count bytes bytes′ call =
           let again = still-listed file (bitsOf (tablesOf (header .tree) .columns)) l pages (b .stop) inner′ (subst (λ (c : List ColumnRow). ThePageList file (bitsOf c) l) columns list) u ch′ small′ in
           let n = length (unsummed (λ _. pageListShape file (bitsOf (tablesOf (header .tree) .columns))) u) in
           let listed : pageListOf (still .header) entries file l′ ≡ found pages n = listed-beside e e′ h (still .header) entries file l′ pages n (still .contents) total (ap (λ (c : List ColumnRow). envelope 1 (payload file (bitsOf c)) l′) columns ∙ again) in
-          let is′ : pageListBeside e′ l′ entries file ≡ read pages = both-read-is 3 (λ x. pageListOf x entries file l′) (headerOf e′) pages (still .header) (still .place) n (still .reads) listed in
-          let same : pageListBeside e′ l′ entries file ≡ pageListBeside e l entries file = is′ ∙ sym is in
+          both-read-is 3 (λ x. pageListOf x entries file l′) (headerOf e′) pages (still .header) (still .place) n (still .reads) listed ∙ sym is;
+    }
+
+-- demand 3 for the page-list reader
+pub page-list-forward : PageListForward
+page-list-forward e l entries file p₀ p count bytes bytes′ call =
+    let k = pages-read e l entries file (length p₀) (sym (ap (λ (y : PageListAnswer). isAccepted (outcomeOf y)) (call .answers))) in
+    let s = same-pages e l entries file (k .pages) bytes bytes′ (k .is) in
+    record {
+      header = s .header;
+      pageList = s .pageList;
+      forward = λ t u ch ch′ small small′ p′ r′ call′.
+          let same = s .same t u ch ch′ small small′ in
           (call′ .answers ∙ ap (answer (length p₀)) same ∙ sym (call .answers), call′ .pagesAre ∙ ap (written (length p₀) p₀) same ∙ sym (call .pagesAre));
+    }
+
+-- and for a report, in which only what was read counts
+pub report-forward : ReportForward
+report-forward e l entries file pages bytes bytes′ is =
+    let s = same-pages e l entries file pages bytes bytes′ is in
+    record {
+      header = s .header;
+      pageList = s .pageList;
+      forward = λ t u ch ch′ small small′ counts old. ap (λ (x : Beside (List (List PageRow))). reported x counts old) (s .same t u ch ch′ small small′);
     }

@@ -5,6 +5,8 @@ mod store;
 
 use listing::ListAnswer;
 use room::Room;
+pub use store::shown_byte;
+pub use store::store_spaces;
 ghost use mathlib.Core.Path.{_≡_};
 ghost use lib.ListN.{length};
 ghost use Rattle.listing.specs.Answers.{fitted, placed};

@@ -13,7 +13,7 @@ ghost use Rattle.listing.specs.Lines.{shownByte, shown, darkWord};
 ghost use Rattle.listing_lines.specs.Line.{lineBytes, linesIn};
 
 // A byte as it prints: a question mark for those that would disturb a line.
-fn shown_byte(byte: u8) -> u8
+pub fn shown_byte(byte: u8) -> u8
     ensures { λ r. ⌜ r ≡ shownByte byte ⌝ }
 {
     if byte < 32 {
@@ -41,7 +41,7 @@ fn store_shown(bytes: &[u8], at: usize, out: &mut [u8]) -> usize
 }
 
 // So many spaces. The compiler makes one fill of the loop.
-fn store_spaces(count: usize, at: usize, out: &mut [u8]) -> usize
+pub fn store_spaces(count: usize, at: usize, out: &mut [u8]) -> usize
     ensures { λ r. ⌜ Stored (now (out .entry)) at (replicate count 32) (now (out .exit)) r ⌝ }
 {
     if numbers::has_room(out, at, count) {

@@ -58,7 +58,7 @@ module _ (head : ℕ) (r : List (List PageRow) → Rule (List PageRow)) (s : Lis
       by more (refused f) h = absurd (omega (arith, leb-true 1 0 h))
 
   -- so the next one is accepted, and its pages are among them
-  next-pages : {n start i at : ℕ} (m : Reached head r n s start i at) → accepted (items head r n [] s start) ≡ true → i < n
+  pub next-pages : {n start i at : ℕ} (m : Reached head r n s start i at) → accepted (items head r n [] s start) ≡ true → i < n
       → (accepted (r (m .done) s at) ≡ true) × (pagesOf (m .done) + length (rowsOf (r (m .done) s at)) ≤ pagesOf (rowsOf (items head r n [] s start)))
   unfolding reached-more
   next-pages {n} {start} {i} {at} m a h = by (r (m .done) s at) refl

@@ -1,4 +1,6 @@
 pub mod FillLaws
-pub mod ReadLaws
+pub mod JudgeLaws
+pub mod AnswerLaws
 pub mod SchemaLaws
 pub mod Outcomes
+pub mod BesideLaws

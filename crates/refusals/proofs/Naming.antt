@@ -40,11 +40,11 @@ among-more m ns n h = by (eqb n m)
     by false = h
 
 -- each of these is one of those
-abbrev includes : List ℕ → List ℕ → Bool
+abbrev pub includes : List ℕ → List ℕ → Bool
 includes ns [] = true
 includes ns (m ∷ ms) = both (among ns m) (includes ns ms)
 
-included : (ns ms : List ℕ) (n : ℕ) → includes ns ms ≡ true → among ms n ≡ true → among ns n ≡ true
+pub included : (ns ms : List ℕ) (n : ℕ) → includes ns ms ≡ true → among ms n ≡ true → among ns n ≡ true
 unfolding among
 included ns [] n h a = no a
 included ns (m ∷ ms) n h a = by (included ns ms n) (among ns m) refl h (eqb n m) refl a

@@ -146,7 +146,7 @@ list-refusals e out₀ out r call =
     told ofHeader (first-byte (withRoom inHeader) refl) (listOutcome r) (ap (λ (y : ListAnswer). possible ofHeader (listOutcome y)) (call .answers) ∙ list-possible (length out₀) e)
 
 -- what is read beside a header: by the header's refusal, a refusal of its own, and what was read
-beside-any : {A : Type 0} (P : Beside A → Type 0) (k : ℕ) (ns : List ℕ) (r : Header → Step A) → ((h : Header) (f : Fault) → r h ≡ refused f → among ns (f .number) ≡ true)
+pub beside-any : {A : Type 0} (P : Beside A → Type 0) (k : ℕ) (ns : List ℕ) (r : Header → Step A) → ((h : Header) (f : Fault) → r h ≡ refused f → among ns (f .number) ≡ true)
     → ((a : A) → P (read a)) → ((f : Fault) → among inHeader (f .number) ≡ true → P (refusal 1 f)) → ((f : Fault) → among ns (f .number) ≡ true → P (refusal k f))
     → (e : List ℕ) → P (beside k r (headerOf e))
 unfolding HeaderNumbers

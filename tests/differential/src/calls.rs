@@ -69,6 +69,20 @@ mod exported {
             result: *mut u64,
             result_words: usize,
         ) -> u32;
+        pub fn rnt_report_page_list(
+            header: *const u8,
+            header_length: usize,
+            page_list: *const u8,
+            page_list_length: usize,
+            entries: u64,
+            file_length: u64,
+            accepted: u64,
+            refused: u64,
+            report: *mut u64,
+            report_words: usize,
+            result: *mut u64,
+            result_words: usize,
+        ) -> u32;
         pub fn rnt_write_header(
             strings: *const u8,
             strings_length: usize,
@@ -130,6 +144,14 @@ mod exported {
             file_length: usize,
             words: *mut u64,
             word_count: usize,
+            result: *mut u64,
+            result_words: usize,
+        ) -> u32;
+        pub fn rnt_count_true(
+            elements: u64,
+            checksum: u32,
+            page: *const u8,
+            page_length: usize,
             result: *mut u64,
             result_words: usize,
         ) -> u32;
@@ -292,6 +314,33 @@ mod exported {
     }
 
     #[allow(clippy::too_many_arguments)]
+    pub unsafe fn rnt_report_page_list(
+        header: *const u8,
+        header_length: usize,
+        page_list: *const u8,
+        page_list_length: usize,
+        entries: u64,
+        file_length: u64,
+        accepted: u64,
+        refused: u64,
+        report: *mut u64,
+        report_words: usize,
+        result: *mut u64,
+        result_words: usize,
+    ) -> u32 {
+        answer(from_raw_parts_mut(result, result_words), || {
+            reference::report_page_list(
+                from_raw_parts(header, header_length),
+                from_raw_parts(page_list, page_list_length),
+                entries,
+                file_length,
+                [accepted, refused],
+                from_raw_parts_mut(report, report_words),
+            )
+        })
+    }
+
+    #[allow(clippy::too_many_arguments)]
     pub unsafe fn rnt_write_header(
         strings: *const u8,
         strings_length: usize,
@@ -409,6 +458,19 @@ mod exported {
             let pages = from_raw_parts(pages, page_words);
             let file = from_raw_parts(file, file_length);
             reference::decode_column(column_type, pages, file, from_raw_parts_mut(words, word_count))
+        })
+    }
+
+    pub unsafe fn rnt_count_true(
+        elements: u64,
+        checksum: u32,
+        page: *const u8,
+        page_length: usize,
+        result: *mut u64,
+        result_words: usize,
+    ) -> u32 {
+        answer(from_raw_parts_mut(result, result_words), || {
+            reference::count_true(elements, checksum != 0, from_raw_parts(page, page_length))
         })
     }
 
@@ -562,6 +624,44 @@ pub fn read_paired_page_list(
     }
 }
 
+/// A page list that is handed to a report, with the report's counts so far.
+#[derive(Clone, Copy)]
+pub struct ReportedList<'a> {
+    pub header: &'a [u8],
+    pub page_list: &'a [u8],
+    pub entries: u64,
+    pub file_length: u64,
+    /// Lists accepted and refused.
+    pub counts: [u64; 2],
+}
+
+pub fn report_page_list(list: ReportedList, report: &mut [u64], result: &mut [u64]) -> u32 {
+    let ReportedList {
+        header,
+        page_list,
+        entries,
+        file_length,
+        counts: [accepted, refused],
+    } = list;
+    // SAFETY: as above.
+    unsafe {
+        exported::rnt_report_page_list(
+            header.as_ptr(),
+            header.len(),
+            page_list.as_ptr(),
+            page_list.len(),
+            entries,
+            file_length,
+            accepted,
+            refused,
+            report.as_mut_ptr(),
+            report.len(),
+            result.as_mut_ptr(),
+            result.len(),
+        )
+    }
+}
+
 /// What is lent to the writer of a header, besides the bytes that it writes.
 #[derive(Clone, Copy)]
 pub struct HeaderTables<'a> {
@@ -698,6 +798,20 @@ pub fn decode_column(column_type: u32, pages: &[u64], file: &[u8], words: &mut [
             file.len(),
             words.as_mut_ptr(),
             words.len(),
+            result.as_mut_ptr(),
+            result.len(),
+        )
+    }
+}
+
+pub fn count_true(elements: u64, checksum: u32, page: &[u8], result: &mut [u64]) -> u32 {
+    // SAFETY: as above.
+    unsafe {
+        exported::rnt_count_true(
+            elements,
+            checksum,
+            page.as_ptr(),
+            page.len(),
             result.as_mut_ptr(),
             result.len(),
         )

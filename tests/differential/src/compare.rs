@@ -2,10 +2,11 @@
 //! either of them may write.
 
 mod columns;
+mod figures;
 pub mod listing;
 mod writing;
 
-use crate::calls::{self, FooterTables, HeaderTables, PageListTable};
+use crate::calls::{self, FooterTables, HeaderTables, PageListTable, ReportedList};
 use crate::generate::envelopes::{FooterCase, HeaderCase, PageListCase};
 use crate::generate::moves::{MovesCase, MOST_MOVES};
 use crate::generate::pages::{CrcCase, DecodeCase, EncodeCase};
@@ -144,11 +145,15 @@ enum Note {
     SeveralPages,
     LaterPage,
     SingleCalls,
+    AddedLists,
+    ExactSums,
+    MostLists,
+    CountedAgain,
     Short,
 }
 
 /// The notes as a report has them.
-pub const NOTES: [&str; 15] = [
+pub const NOTES: [&str; 19] = [
     "of them also from a newer writer",
     "of them with checksums of page lists",
     "of them with the row's checksum",
@@ -163,6 +168,10 @@ pub const NOTES: [&str; 15] = [
     "of them with several pages",
     "refused behind pages that stay decoded",
     "made again by single calls",
+    "lists added to figures",
+    "made again from zeros in two orders",
+    "of them with as many lists as there can be",
+    "counted again in decoded words",
     "with too short a result",
 ];
 
@@ -237,6 +246,15 @@ pub type ListCall = fn(&[u8], &mut [u8], &mut [u64]) -> u32;
 /// that a wrong call can change them, to see that it is found.
 pub type ColumnCall = fn(u32, &mut [u64], &mut [u8], &mut [u64], &mut [u64]) -> u32;
 
+/// A call that adds a page list to a report: the list, the lent report and the
+/// lent result.
+pub type ReportCall = fn(ReportedList, &mut [u64], &mut [u64]) -> u32;
+
+/// A call that counts the true elements of a Bit page: how many elements there
+/// are, whether a checksum is asked for, the page and the lent result. The page
+/// is lent so that a wrong call can change it.
+pub type CountCall = fn(u64, u32, &mut [u8], &mut [u64]) -> u32;
+
 /// Calls that write: what they are lent, the bytes and the result.
 pub type WriteHeaderCall = Box<dyn Fn(HeaderTables, &mut [u8], &mut [u64]) -> u32>;
 pub type WriteFooterCall = Box<dyn Fn(FooterTables, &mut [u8], &mut [u64]) -> u32>;
@@ -249,6 +267,8 @@ pub struct Comparer {
     pub parent_moves: MovesCall,
     pub list_fields: ListCall,
     pub decode_column: ColumnCall,
+    pub report_page_list: ReportCall,
+    pub count_true: CountCall,
     pub write_header: WriteHeaderCall,
     pub write_footer: WriteFooterCall,
     pub write_page_list: WritePageListCall,
@@ -270,6 +290,8 @@ impl Comparer {
             decode_column: |column_type, pages, file, words, result| {
                 calls::decode_column(column_type, pages, file, words, result)
             },
+            report_page_list: calls::report_page_list,
+            count_true: |elements, checksum, page, result| calls::count_true(elements, checksum, page, result),
             write_header: Box::new(calls::write_header),
             write_footer: Box::new(calls::write_footer),
             write_page_list: Box::new(calls::write_page_list),
@@ -354,6 +376,14 @@ impl Comparer {
             Kind::Column => {
                 let case = self.generator.column_case();
                 self.column(&case).map_err(|error| error + &columns::dump_column(&case))
+            }
+            Kind::Report => {
+                let case = self.generator.report_case();
+                self.report(&case).map_err(|error| error + &figures::dump_report(&case))
+            }
+            Kind::CountTrue => {
+                let case = self.generator.count_case();
+                self.count(&case).map_err(|error| error + &figures::dump_count(&case))
             }
             Kind::Encode => {
                 let case = self.generator.encode_case();

@@ -5,6 +5,7 @@ pub mod columns;
 pub mod damage;
 pub mod edges;
 pub mod envelopes;
+pub mod figures;
 pub mod listing;
 pub mod models;
 pub mod moves;
@@ -17,7 +18,7 @@ pub mod writing;
 use crate::writer::Writer;
 use random::Random;
 
-/// The fourteen kinds of cases.
+/// The sixteen kinds of cases.
 #[derive(Clone, Copy, Debug, PartialEq, Eq)]
 pub enum Kind {
     Header,
@@ -34,9 +35,11 @@ pub enum Kind {
     WritePageList,
     List,
     Column,
+    Report,
+    CountTrue,
 }
 
-pub const KINDS: [Kind; 14] = [
+pub const KINDS: [Kind; 16] = [
     Kind::Header,
     Kind::Footer,
     Kind::PageList,
@@ -51,6 +54,8 @@ pub const KINDS: [Kind; 14] = [
     Kind::WritePageList,
     Kind::List,
     Kind::Column,
+    Kind::Report,
+    Kind::CountTrue,
 ];
 
 impl Kind {
@@ -70,6 +75,8 @@ impl Kind {
             Kind::WritePageList => "write-page-list",
             Kind::List => "list",
             Kind::Column => "column",
+            Kind::Report => "report",
+            Kind::CountTrue => "count-true",
         }
     }
 }

@@ -12,8 +12,9 @@ usage: differential N [SEED] [--threads T] [--only KIND] [--case NUMBER]
 
 Runs N cases of each kind (header, footer, page-list, decode, encode, crc,
 string, pairing, moves, write-header, write-footer, write-page-list, list,
-column) on the library and on the independent reference, and compares answers,
-result words and every word and byte of every lent room. SEED is 1 unless given.
+column, report, count-true) on the library and on the independent reference, and
+compares answers, result words and every word and byte of every lent room. SEED
+is 1 unless given.
 --threads T      at most 2 threads, 1 unless given
 --only KIND      that kind alone
 --case NUMBER    that case alone, of each kind or of the one named
@@ -141,10 +142,11 @@ fn reachable(kind: Kind) -> Vec<(usize, usize)> {
         Kind::Footer => header
             .chain(own(2, &[1, 2, 3, 4, 5, 6, 7, 8, 10, 11, 12, 16, 17, 18, 19, 20]))
             .collect(),
-        Kind::PageList => header.chain(own(3, &page_list)).collect(),
+        Kind::PageList | Kind::Report => header.chain(own(3, &page_list)).collect(),
         Kind::Pairing => header.chain(own(3, &page_list)).chain([(3, 26)]).collect(),
         Kind::Decode => own(4, &[10, 20, 21, 22, 23, 24]),
         Kind::Column => own(4, &[10, 18, 20, 21, 22, 23, 24]),
+        Kind::CountTrue => own(4, &[10, 21, 22, 24]),
         Kind::Encode => own(4, &[10, 20, 23, 25]),
         Kind::Crc => Vec::new(),
         Kind::String => own(1, &[9]),

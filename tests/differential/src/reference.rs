@@ -4,6 +4,7 @@
 pub mod columns;
 pub mod crc;
 pub mod envelope;
+pub mod figures;
 pub mod footer;
 pub mod header;
 pub mod listing;
@@ -122,6 +123,24 @@ pub fn read_paired_page_list(
     }
 }
 
+/// Adds a page list to a report, after reading its header; gives the lists
+/// accepted and refused after it, also where it is refused.
+pub fn report_page_list(
+    header: &[u8],
+    page_list: &[u8],
+    entries: u64,
+    file_length: u64,
+    counts: figures::Counts,
+    report: &mut [u64],
+) -> (u32, figures::Counts) {
+    let mut after = counts;
+    let added = figures::add(header, page_list, entries, file_length, &mut after, report);
+    match added {
+        Ok(()) => (ACCEPTED, after),
+        Err((envelope, number)) => (refusal(envelope, number), after),
+    }
+}
+
 /// Writes a header from flat tables; gives the bytes written.
 pub fn write_header(
     strings: &[u8],
@@ -192,6 +211,14 @@ pub fn decode_column(column_type: u32, pages: &[u64], file: &[u8], words: &mut [
     match columns::decode(column_type, pages, file, words) {
         Ok(count) => (ACCEPTED, [count as u64]),
         Err((number, index)) => (refusal(PAGE, number), [index as u64]),
+    }
+}
+
+/// How many elements of a Bit page are true.
+pub fn count_true(elements: u64, checksum: bool, page: &[u8]) -> (u32, [u64; 1]) {
+    match pages::count_true(elements, checksum, page) {
+        Ok(count) => (ACCEPTED, [count]),
+        Err(number) => (refusal(PAGE, number), [0]),
     }
 }
 

@@ -1,5 +1,5 @@
 use Rattle.header_schema.proofs.SchemaLaws.{header-accepted, header-refuses}
-use Rattle.page_list.proofs.ReadLaws.{beside-refused}
+use Rattle.page_list.proofs.AnswerLaws.{beside-refused}
 use Rattle.pairing.proofs.PairedLaws.{stale-first, stale-then}
 use borrow.Author.Needs.{needs}
 use Rattle.pairing.proofs.refuse_stale.Statement.{statement}

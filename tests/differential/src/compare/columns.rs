@@ -9,7 +9,7 @@ use std::fmt::Write;
 use std::hint::black_box;
 
 /// A copy of what is lent to be read, among other numbers that are not part of it.
-struct Copied<T> {
+pub(super) struct Copied<T> {
     whole: Vec<T>,
     skip: usize,
     length: usize,
@@ -17,7 +17,7 @@ struct Copied<T> {
 }
 
 impl<T: Cell> Copied<T> {
-    fn new(lent: &[T], skip: usize, seed: u64) -> Self {
+    pub(super) fn new(lent: &[T], skip: usize, seed: u64) -> Self {
         let around = |index| T::pattern(seed, index);
         let mut whole: Vec<T> = (0..skip).map(around).collect();
         whole.extend_from_slice(lent);
@@ -30,11 +30,11 @@ impl<T: Cell> Copied<T> {
         }
     }
 
-    fn lend(&mut self) -> &mut [T] {
+    pub(super) fn lend(&mut self) -> &mut [T] {
         &mut self.whole[self.skip..][..self.length]
     }
 
-    fn check(&mut self, name: &str) -> Result<(), String> {
+    pub(super) fn check(&mut self, name: &str) -> Result<(), String> {
         // The library is given pointers: what it may have written is read again.
         if *black_box(&mut self.whole) == self.old {
             return Ok(());

@@ -221,7 +221,7 @@ impl Generator {
         std::mem::take(&mut self.writer.bytes)
     }
 
-    fn other_number(&mut self, old: u64) -> u64 {
+    pub(super) fn other_number(&mut self, old: u64) -> u64 {
         match self.random.below(4) {
             0 => old.wrapping_add(1),
             1 => old.wrapping_sub(1),

@@ -133,6 +133,14 @@ pub fn decode(
     Ok(())
 }
 
+/// The page is decoded, and those of its elements counted that are true.
+pub fn count_true(elements: u64, checksum: bool, page: &[u8]) -> Result<u64, Number> {
+    known(BIT, elements)?;
+    let mut words = vec![0; elements as usize];
+    decode(BIT, elements, checksum, page, &mut words, 0)?;
+    Ok(words.iter().filter(|&&word| word == 1).count() as u64)
+}
+
 pub fn encode(
     column_type: u32,
     elements: u64,

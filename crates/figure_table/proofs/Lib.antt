@@ -1,0 +1,4 @@
+pub mod ShownLaws
+pub mod NumeralLaws
+pub mod RowLaws
+pub mod Examples
