@@ -1,23 +1,23 @@
 -- A page's range as the code has it, and the loop over the pages.
 -- Assumes nothing.
 use mathlib.Core.Path.{_≡_, refl, sym, ap, _∙_}
-use mathlib.Core.Bool.{Bool, true, false, false≢true}
+use mathlib.Core.Bool.{true}
 use mathlib.Core.List.{List, _∷_}
 use Prim.Native.Nat.{ℕ, _+_, _-_, _<_, _≤_}
 use native.Mathlib.Numerals.{add-one}
 use native.Mathlib.Omega.{arith}
-use lib.Dec.{leb, eqb}
+use lib.Dec.{eqb}
 use lib.ListN.{length, getD, take, drop}
-use borrow.Author.Tests.{le-leb, lt-leb, leb-true}
+use borrow.Author.Tests.{le-leb, lt-leb}
 use Rattle.numbers.specs.Numbers.{trailer}
 use Rattle.outcome.specs.Outcome.{Outcome, isAccepted}
 use Rattle.rows.specs.Tables.{rowsIn}
 use Rattle.rows.proofs.FirstRows.{next-row, no-rows}
-use Rattle.wire.specs.Reading.{unless}
 use Rattle.locator.specs.Locator.{inFile}
 use Rattle.page_rules.specs.Page.{accept, refuse}
 use Rattle.column_rules.specs.declared.ColumnPage.{ColumnPage}
 use Rattle.column_rules.specs.Column.{acceptAll, refuseAt, columnPageWidth, columnPage, columnPages, inside, pageBytes, pageOutcome, pageDecoded, inTurn, wholeColumn}
+use Rattle.column_rules.proofs.Inside.{inside-ends}
 use Rattle.column_rules.proofs.TurnLaws.{page-accepted, page-refused, turn-accepted, turn-refused}
 
 -- the code's verdict on a page's range, and the part that it lends
@@ -26,11 +26,7 @@ pub verdict-inside : (file : List ℕ) (p : ColumnPage) (behind r : ℕ) → beh
 verdict-inside file p behind r e v = ap (λ (x : ℕ). eqb x 0) (v ∙ ap (λ (b : ℕ). inFile (length file) (p .size) b (p .offset)) e)
 
 pub inside-within : (file : List ℕ) (p : ColumnPage) (behind : ℕ) → behind ≡ trailer (p .checksum) → inside file p ≡ true → p .offset + p .size + behind ≤ length file
-inside-within file p behind e h = rw e (by (leb (p .offset + p .size + trailer (p .checksum)) (length file)) refl h)
-  where
-    by : (b : Bool) → leb (p .offset + p .size + trailer (p .checksum)) (length file) ≡ b → eqb (unless b 18 0) 0 ≡ true → p .offset + p .size + trailer (p .checksum) ≤ length file
-    by true l h = leb-true _ _ l
-    by false l h = absurd (false≢true h)
+inside-within file p behind e h = rw e (inside-ends file p h)
 
 pub part-is : (file : List ℕ) (p : ColumnPage) (behind : ℕ) → behind ≡ trailer (p .checksum) → take (p .offset + p .size + behind - p .offset) (drop (p .offset) file) ≡ pageBytes file p
 part-is file p behind e =

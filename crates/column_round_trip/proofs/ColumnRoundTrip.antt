@@ -6,14 +6,10 @@ use mathlib.Core.Bool.{Bool, true, false}
 use mathlib.Core.List.{List, [], _∷_, _++_}
 use native.Mathlib.Nat.{add-zero, zero-add}
 use native.Mathlib.Omega.{arith}
-use lib.Dec.{leb, eqb}
 use lib.ListN.{length, take, drop, length-append, length-drop, take-append-drop}
 use lib.Seq.{take-take, take-add, take-at, drop-drop, length-take-le}
-use borrow.Author.Tests.{leb-true}
-use Rattle.numbers.specs.Numbers.{trailer}
 use Rattle.numbers.specs.Rows.{flat, over}
 use Rattle.numbers.proofs.Choice.{clash}
-use Rattle.wire.specs.Reading.{unless}
 use Rattle.outcome.specs.Outcome.{isAccepted}
 use Rattle.coding.specs.Inverses.{Below}
 use Rattle.coding.proofs.Below.{below-take, below-drop}
@@ -23,7 +19,8 @@ use Rattle.page_rules.proofs.Encoding.{encodes}
 use Rattle.round_trip.specs.RoundTrip.{EncodeDecode, DecodeEncode}
 use Rattle.round_trip.proofs.RoundTrip.{encode-decode, decode-encode}
 use Rattle.column_rules.specs.declared.ColumnPage.{ColumnPage}
-use Rattle.column_rules.specs.Column.{acceptAll, inside, pageBytes, pageOutcome, pageDecoded, Decoding, columnPages, indexOf, inTurn, wholeColumn}
+use Rattle.column_rules.proofs.Inside.{length-inside}
+use Rattle.column_rules.specs.Column.{acceptAll, pageBytes, pageOutcome, pageDecoded, Decoding, columnPages, indexOf, inTurn, wholeColumn}
 use Rattle.column_rules.specs.Statements.{pageElements, elementsOf}
 use Rattle.column_rules.proofs.TurnLaws.{Taken, is-single, page-accepted, turn-accepted, turn-refused, one-after-other}
 use Rattle.column_rules.proofs.Ends.{all-left}
@@ -84,23 +81,13 @@ encode-decode-column t file table words old few written room =
 
 -- from pages to words and back
 
--- as many bytes as a page has with its checksum are there
-stored-there : (file : List ℕ) (p : ColumnPage) → inside file p ≡ true → length (pageBytes file p) ≡ storedSize p
-stored-there file p h =
-    let l : p .offset + p .size + trailer (p .checksum) ≤ length file = leb-true _ _ (by (leb (p .offset + p .size + trailer (p .checksum)) (length file)) h) in
-    length-take-le (storedSize p) (drop (p .offset) file) (omega (arith, length-drop (p .offset) file))
-  where
-    by : (b : Bool) → eqb (unless b 18 0) 0 ≡ true → b ≡ true
-    by true e = refl
-    by false e = clash e refl
-
 -- a page that is accepted is encoded again from words that have its elements
 again : (t : ℕ) (file : List ℕ) (p : ColumnPage) (start : ℕ) (old words : List ℕ) → Below 256 file → Taken t file p old start
     → start + p .elements ≤ length words → chosen (p .elements) words start ≡ pageElements t file p → EncodedAgain t file words p start
 unfolding DecodeEncode
 again t file p start old words bytes k there same room h =
     let n : ℕ = p .elements in
-    let long = stored-there file p (k .isInside) in
+    let long = length-inside file p (k .isInside) in
     let left : chosen n (decoded t n (p .checksum) (pageBytes file p) old start) start ≡ pageElements t file p =
     ap (λ (l : List ℕ). chosen n l start) (sym (is-single t file p old start (k .isInside) .1) ∙ k .leaves) ∙ chosen-left old (pageElements t file p) start n (k .count) (k .room) in
     let r =

@@ -1,3 +1,4 @@
+pub mod Inside
 pub mod TurnLaws
 pub mod Ends
 pub mod Numbers

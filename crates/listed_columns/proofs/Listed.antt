@@ -8,8 +8,7 @@ use mathlib.Core.Path.{_≡_, refl, ap, _∙_}
 use native.Mathlib.Omega.{arith}
 use borrow.Author.Tests.{le-leb, eq-eqb}
 use lib.Dec.{leb}
-use lib.ListN.{length, getD, drop, length-drop}
-use lib.Seq.{length-take-le}
+use lib.ListN.{length, getD}
 use Rattle.numbers.specs.Lists.{Each}
 use Rattle.numbers.specs.Numbers.{trailer, bytesFor}
 use Rattle.numbers.proofs.Choice.{both-true}
@@ -25,6 +24,7 @@ use Rattle.page_rules.proofs.Decoding.{unless-by, clear-other}
 use Rattle.column_rules.specs.declared.ColumnPage.{ColumnPage}
 use Rattle.column_rules.specs.Column.{acceptAll, columnPageWidth, columnPages, inside, pageBytes, pageOutcome, wholeColumn}
 use Rattle.column_rules.specs.Statements.{AcceptsOr}
+use Rattle.column_rules.proofs.Inside.{ends-inside, length-inside}
 use Rattle.column_rules.proofs.TurnLaws.{is-single}
 use Rattle.column_rules.proofs.Numbers.{PageOr, pages-or}
 use Rattle.column_rules.proofs.Statements.{whole-numbers}
@@ -42,13 +42,10 @@ module _ (t : ℕ) (file : List ℕ) (isReadable : readable t ≡ true) (p : Col
   n = p .elements
 
   is-inside : inside file p ≡ true
-  is-inside = rw (le-leb (p .offset + p .size + trailer (p .checksum)) (length file) (h .ends)) refl
+  is-inside = ends-inside file p (h .ends)
 
   bytes-long : length (pageBytes file p) ≡ sizeOf t n + trailer (p .checksum)
-  bytes-long =
-      let ends = h .ends in
-      length-take-le (p .size + trailer (p .checksum)) (drop (p .offset) file) (omega (arith, length-drop (p .offset) file))
-      ∙ ap (λ (s : ℕ). s + trailer (p .checksum)) (h .size)
+  bytes-long = length-inside file p is-inside ∙ ap (λ (s : ℕ). s + trailer (p .checksum)) (h .size)
 
   tests-left : pageOutcome t file p (length old) start
       ≡ unless (leb n mostElements) 10

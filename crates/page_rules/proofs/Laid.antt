@@ -14,6 +14,7 @@ use lib.Seq.{take-at, drop-at, length-take-le}
 use Rattle.planes.proofs.Words.{bytes-power}
 use Rattle.column_type.specs.Types.{widthOf, split, delta, zigzag}
 use Rattle.coding.specs.Layout.{unplanes, unplain, unpacked, unzigzagged, largest}
+use Rattle.numbers.specs.Numbers.{bytesFor}
 use Rattle.numbers.specs.Rows.{over}
 use Rattle.page_rules.specs.Page.{readable, sizeOf, chosen, laid, elements}
 use Rattle.coding.specs.Inverses.{Below}
@@ -22,7 +23,7 @@ use Rattle.coding.proofs.Delta.{length-sums}
 use Rattle.coding.proofs.Plain.{length-unplain}
 use Rattle.coding.proofs.Planes.{length-unplanes}
 use Rattle.coding.proofs.Strided.{below-unplanes, below-unplain}
-use Rattle.page_rules.proofs.Types.{OfBytes, of-bytes, whole}
+use Rattle.page_rules.proofs.Types.{OfBytes, of-bytes, Whole, whole}
 
 -- written over
 
@@ -77,15 +78,21 @@ largest-is w h = go (ltb w 64) refl
         let s : 64 ≡ w = omega arith in
         sym (largest-above w l) ∙ ap (λ (v : ℕ). 2 ^ v - 1) s
 
+pub whole-power : (w : ℕ) → Whole w → 256 ^ (w / 8) ≡ 2 ^ w
+whole-power w h = bytes-power (w / 8) ∙ ap (λ (i : ℕ). 2 ^ i) (sym (h .eights))
+
 pub power-of : (t : ℕ) → OfBytes t → 256 ^ (widthOf t / 8) ≡ 2 ^ widthOf t
-power-of t o = bytes-power (widthOf t / 8) ∙ ap (λ (i : ℕ). 2 ^ i) (sym (whole t o .eights))
+power-of t o = whole-power (widthOf t) (whole t o)
+
+pub whole-size : (w n : ℕ) → Whole w → bytesFor n w ≡ n * (w / 8)
+whole-size w n h =
+    let k : ℕ = w / 8 in
+    let m : n * w ≡ 8 * (n * k) =
+    ap (λ (v : ℕ). n * v) (h .eights) ∙ sym (mul-assoc n 8 k) ∙ ap (λ (i : ℕ). i * k) (mul-comm n 8) ∙ mul-assoc 8 n k in
+    omega arith
 
 pub size-of : (t n : ℕ) → OfBytes t → sizeOf t n ≡ n * (widthOf t / 8)
-size-of t n o =
-    let k : ℕ = widthOf t / 8 in
-    let m : n * widthOf t ≡ 8 * (n * k) =
-    ap (λ (w : ℕ). n * w) (whole t o .eights) ∙ sym (mul-assoc n 8 k) ∙ ap (λ (i : ℕ). i * k) (mul-comm n 8) ∙ mul-assoc 8 n k in
-    omega arith
+size-of t n o = whole-size (widthOf t) n (whole t o)
 
 -- which numbers, by the type
 

@@ -1,4 +1,5 @@
 pub mod Types
+pub mod Widths
 pub mod Laid
 pub mod Decoding
 pub mod Encoding

@@ -110,7 +110,7 @@ pub record Whole (w : ℕ) : Type 0 where
   pub most : w / 8 ≤ 8
   pub bytes : WholeBytes (w / 8)
 
-whole-at : (w k : ℕ) → w ≡ 8 * k → WholeBytes k → 1 ≤ k → k ≤ 8 → Whole w
+pub whole-at : (w k : ℕ) → w ≡ 8 * k → WholeBytes k → 1 ≤ k → k ≤ 8 → Whole w
 whole-at w k e b l m =
     let d : w / 8 ≡ k = omega arith in
     record { eights = omega arith; some = omega arith; most = omega arith; bytes = subst WholeBytes (sym d) b }

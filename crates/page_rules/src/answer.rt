@@ -4,8 +4,11 @@ ghost use mathlib.Core.Bool.{Bool, true, false};
 ghost use Prim.Native.Nat.{ℕ, _+_, _*_, _-_, _/_, _%_, _^_, _<_, _≤_};
 ghost use lib.ListN.{length, take, drop};
 ghost use lib.Dec.{leb};
-ghost use Rattle.numbers.specs.Numbers.{trailer};
-ghost use Rattle.page_rules.specs.Page.{readable, mostElements, sizeOf, unusedClear, checksumRight, outcomeOf, refuse, asked, decodeOutcome, encodeOutcome};
+ghost use Rattle.numbers.specs.Numbers.{bytesFor, trailer};
+ghost use Rattle.outcome.specs.Outcome.{isAccepted};
+ghost use Rattle.column_type.specs.Types.{widthOf};
+ghost use Rattle.page_rules.specs.Widths.{readWidth, FitsWidth};
+ghost use Rattle.page_rules.specs.Page.{mostElements, unusedClear, checksumRight, outcomeOf, refuse, asked, decodeOutcome, encodeOutcome};
 ghost use Rattle.coding.specs.Layout.{fit, FitsAs};
 use crate::PageAnswer;
 use crate::number::most;
@@ -13,19 +16,19 @@ use crate::number::most;
 // The most elements in one page call.
 const MOST_ELEMENTS: usize = 131072;
 
-// A type whose pages are read: known, and not Switch.
-fn is_readable(column_type: u64) -> bool
-    ensures { λ r. ⌜ r ≡ readable «column_type» ⌝ }
+// A width whose pages are read: that of each known type but Switch.
+fn is_readable(width: u64) -> bool
+    ensures { λ r. ⌜ r ≡ readWidth width ⌝ }
 {
-    column_type::is_known(column_type) && column_type != 3
+    width == 1 || (width == 8 || (width == 16 || (width == 32 || width == 64)))
 }
 
 // The bytes of a page of n elements, without its checksum.
-fn page_size(column_type: u64, n: usize) -> usize
-    requires { ⌜ (readable «column_type» ≡ true) × (n ≤ mostElements) ⌝ }
-    ensures { λ r. ⌜ (r ≡ sizeOf «column_type» n) × (r ≤ 1048576) ⌝ }
+fn page_size(width: u64, n: usize) -> usize
+    requires { ⌜ (readWidth width ≡ true) × (n ≤ mostElements) ⌝ }
+    ensures { λ r. ⌜ (r ≡ bytesFor n width) × (r ≤ 1048576) ⌝ }
 {
-    (n * (column_type::width_of(column_type) as usize) + 7) / 8
+    (n * (width as usize) + 7) / 8
 }
 
 // The checksum behind the page, if there is one, is that of the page.
@@ -41,11 +44,11 @@ fn checksum_right(checksum: bool, size: usize, page: &[u8]) -> bool
 }
 
 // The unused bits of a Bit page's last byte are zero.
-fn unused_clear(column_type: u64, n: usize, page: &[u8]) -> bool
-    requires { ⌜ sizeOf «column_type» n ≤ length (now page) ⌝ }
-    ensures { λ r. ⌜ r ≡ unusedClear «column_type» n (now (page .entry)) ⌝ }
+fn unused_clear(width: u64, n: usize, page: &[u8]) -> bool
+    requires { ⌜ bytesFor n width ≤ length (now page) ⌝ }
+    ensures { λ r. ⌜ ((t : ℕ) → width ≡ widthOf t → r ≡ unusedClear t n (now (page .entry))) ⌝ }
 {
-    if column_type == 6 {
+    if width == 1 {
         let used = n % 8;
         if used == 0 {
             true
@@ -100,30 +103,32 @@ fn all_fit(width: u64, words: &[u64]) -> bool
     all <= limit
 }
 
+// The answer on a page of a type that has this width. Whatever the width, an acceptance says that the page has its elements and the words room for them.
 pub fn decode_answer(
-    column_type: u64,
+    width: u64,
     n: usize,
     checksum: bool,
     page: &[u8],
     words: usize,
     start: usize,
 ) -> PageAnswer
-    ensures { λ r. ⌜ outcomeOf r ≡ decodeOutcome «column_type» n checksum (now (page .entry)) words start ⌝ }
+    ensures answers { λ r. ⌜ ((t : ℕ) → width ≡ widthOf t → outcomeOf r ≡ decodeOutcome t n checksum (now (page .entry)) words start) ⌝ }
+    ensures fits { λ r. ⌜ (isAccepted (outcomeOf r) ≡ true → FitsWidth width n (now (page .entry)) words start) ⌝ }
 {
-    if !is_readable(column_type) {
+    if !is_readable(width) {
         return PageAnswer::Refused(23);
     }
     if MOST_ELEMENTS < n {
         return PageAnswer::Refused(10);
     }
-    let size = page_size(column_type, n);
+    let size = page_size(width, n);
     if page.len() != size + numbers::trailer_size(checksum) {
         return PageAnswer::Refused(21);
     }
     if !checksum_right(checksum, size, page) {
         return PageAnswer::Refused(22);
     }
-    if !unused_clear(column_type, n, page) {
+    if !unused_clear(width, n, page) {
         return PageAnswer::Refused(24);
     }
     if has_room(words, start, n) {
@@ -133,11 +138,11 @@ pub fn decode_answer(
     }
 }
 
-// The answer on a page whose bytes are not where they are said to be: 18, but what is asked of type and elements comes first.
-pub fn outside_answer(column_type: u64, n: usize) -> PageAnswer
-    ensures { λ r. ⌜ outcomeOf r ≡ asked «column_type» n (refuse 18) ⌝ }
+// The answer on a page whose bytes are not where they are said to be: 18, but what is asked of type, by its width, and elements comes first.
+pub fn outside_answer(width: u64, n: usize) -> PageAnswer
+    ensures { λ r. ⌜ ((t : ℕ) → width ≡ widthOf t → outcomeOf r ≡ asked t n (refuse 18)) ⌝ }
 {
-    if !is_readable(column_type) {
+    if !is_readable(width) {
         return PageAnswer::Refused(23);
     }
     if MOST_ELEMENTS < n {
@@ -156,7 +161,8 @@ pub fn encode_answer(
 ) -> PageAnswer
     ensures { λ r. ⌜ outcomeOf r ≡ encodeOutcome «column_type» n checksum (now (words .entry)) start room ⌝ }
 {
-    if !is_readable(column_type) {
+    let width = column_type::width_of(column_type);
+    if !is_readable(width) {
         return PageAnswer::Refused(23);
     }
     if MOST_ELEMENTS < n {
@@ -165,12 +171,12 @@ pub fn encode_answer(
     if !has_room(words.len(), start, n) {
         return PageAnswer::Refused(20);
     }
-    let size = page_size(column_type, n) + numbers::trailer_size(checksum);
+    let size = page_size(width, n) + numbers::trailer_size(checksum);
     if room < size {
         return PageAnswer::Refused(20);
     }
     let end = start + n;
-    if all_fit(column_type::width_of(column_type), &words[start..end]) {
+    if all_fit(width, &words[start..end]) {
         PageAnswer::Accepted(size)
     } else {
         PageAnswer::Refused(25)

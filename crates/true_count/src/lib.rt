@@ -13,14 +13,14 @@ pub enum CountAnswer {
     Refused(u16),
 }
 
-// The type of Bit columns.
-const BIT: u64 = 6;
+// The bits of an element of a Bit page, by which such a page is told.
+const BIT_WIDTH: u64 = 1;
 
 // The page is refused as decoding it to as many lent words as it has elements would be.
 pub fn count_true(elements: usize, checksum: bool, page: &[u8]) -> CountAnswer
     ensures { λ r. ⌜ outcomeOf r ≡ countOutcome elements checksum (now (page .entry)) ⌝ }
 {
-    match decode_answer(BIT, elements, checksum, page, elements, 0) {
+    match decode_answer(BIT_WIDTH, elements, checksum, page, elements, 0) {
         PageAnswer::Accepted(_) => {
             let size = (elements + 7) / 8;
             CountAnswer::Counted(ones::count_all(&page[..size]))

@@ -34,9 +34,9 @@ outside-answer-requires c κs = search needs
 
 returns : tie.Need-returns
 returns c = let a = c .before .before .before .before .before .before .args in
-    let o = is-outside (a .column-type) (now (a .file)) (a .page) (now (a .out)) (a .start)
+    let o : (t : ℕ) → _ = λ t. is-outside t (now (a .file)) (a .page) (now (a .out)) (a .start)
     (sym (verdict-inside (now (a .file)) (a .page) _ _ (c .before .before .before .trailer-size .ensures) (c .before .before .in-file .ensures)) ∙ ne-eqb _ 0 (c .before .if1 .taken)) in
-    (c .outside-answer .ensures ∙ sym (o .0), sym (o .1))
+    (λ t e. c .outside-answer .ensures t e ∙ sym (o t .0), λ t e m. sym (o t .1))
 
 add-to : tie.Need-add-to
 add-to c = omega (arith, within c)
@@ -44,17 +44,17 @@ add-to c = omega (arith, within c)
 add-to-2 : tie.Need-add-to-2
 add-to-2 c = omega (arith, within c)
 
-sub-decode-page : tie.Need-sub-decode-page
-sub-decode-page c = search needs
+sub-decode-as : tie.Need-sub-decode-as
+sub-decode-as c = search needs
 
-part-decode-page-start : tie.Need-part-decode-page-start
-part-decode-page-start c = search needs
+part-decode-as-start : tie.Need-part-decode-as-start
+part-decode-as-start c = search needs
 
-part-decode-page-end : tie.Need-part-decode-page-end
-part-decode-page-end c = omega (arith, within c)
+part-decode-as-end : tie.Need-part-decode-as-end
+part-decode-as-end c = omega (arith, within c)
 
-decode-page-requires : tie.Need-decode-page-requires
-decode-page-requires c κs = search needs
+decode-as-requires : tie.Need-decode-as-requires
+decode-as-requires c κs = search needs
 
 same-length : tie.Need-same-length
 same-length c = search needs
@@ -62,10 +62,12 @@ same-length c = search needs
 returns-2 : tie.Need-returns-2
 returns-2 c = let a = c .before .before .before .before .before .before .before .before .before .before .args in
     let inner : tie.Else1 = c .before .before .before .before .before in
-    let single = is-single (a .column-type) (now (a .file)) (a .page) (now (a .out)) (a .start) (is-inside inner) in
+    let d = c .before .before .decode-as .ensures in
     let part = part-is (now (a .file)) (a .page) _ (inner .before .before .trailer-size .ensures) in (
-      c .before .before .decode-page .ensures .0 ∙ ap (λ (l : List ℕ). decodeOutcome (a .column-type) (a .page .elements) (a .page .checksum) l (length (now (a .out))) (a .start)) part ∙ sym (single .0),
-      c .before .before .decode-page .ensures .1 ∙ ap (λ (l : List ℕ). decoded (a .column-type) (a .page .elements) (a .page .checksum) l (now (a .out)) (a .start)) part ∙ sym (single .1),
+      λ t e. d .0 t e ∙ ap (λ (l : List ℕ). decodeOutcome t (a .page .elements) (a .page .checksum) l (length (now (a .out))) (a .start)) part
+          ∙ sym (is-single t (now (a .file)) (a .page) (now (a .out)) (a .start) (is-inside inner) .0),
+      λ t e m. d .1 t e m ∙ ap (λ (l : List ℕ). decoded t (a .page .elements) (a .page .checksum) l (now (a .out)) (a .start)) part
+          ∙ sym (is-single t (now (a .file)) (a .page) (now (a .out)) (a .start) (is-inside inner) .1),
     )
 
 pub decode-one-spec : {M : Type 1} → statement M
@@ -78,9 +80,9 @@ decode-one-spec =
     returns
     add-to
     add-to-2
-    sub-decode-page
-    part-decode-page-start
-    part-decode-page-end
-    decode-page-requires
+    sub-decode-as
+    part-decode-as-start
+    part-decode-as-end
+    decode-as-requires
     same-length
     returns-2)

@@ -1,91 +1,25 @@
--- `page_decoding::decode_page` meets its contract: where the answer accepts, the lent part from `start` on is filled. Assumes nothing.
-use mathlib.Core.Path.{_≡_, sym, ap, _∙_}
-use mathlib.Core.Bool.{true}
-use mathlib.Core.List.{List, _++_}
-use lib.ListN.{length, take, length-drop}
-use Prim.Native.Nat.{ℕ}
-use native.Mathlib.Omega.{arith}
-use denote.Ref.{now}
-use Rattle.numbers.specs.Rows.{over}
-use Rattle.outcome.specs.Outcome.{isAccepted}
-use Rattle.page_rules.specs.Page.{elements, outcomeOf, decodeOutcome}
-use Rattle.page_rules.proofs.Decoding.{Decodes, decodes, decoded-accepted, decoded-refused}
-use Rattle.numbers.proofs.Parts.{rest-of, put-rest}
-use Rattle.page_decoding.proofs.decode_page.Statement.{statement}
+-- `page_decoding::decode_page` meets its contract, by what its type means. Assumes nothing.
 use borrow.Author.Needs.{needs}
+use Rattle.page_decoding.proofs.decode_page.Statement.{statement}
 use Rattle.page_decoding.proofs.decode_page.Tie as tie
 
-abbrev start : tie.After-enum-told → tie.Start
-start c = c .before .before .before .before .before
+width-of-requires : tie.Need-width-of-requires
+width-of-requires c κs = search needs
 
--- where the answer is an acceptance
+marks-of-requires : tie.Need-marks-of-requires
+marks-of-requires c κs = search needs
 
-is-accepted : (c : tie.After-enum-told) → (let a = start c .args in isAccepted (decodeOutcome (a .column-type) (a .elements) (a .checksum) (now (a .page)) (length (now (a .out))) (a .start)) ≡ true)
-is-accepted c = ap isAccepted (sym (c .before .before .decode-answer .ensures) ∙ ap outcomeOf (c .enum-told .given .1))
-
-passed : (c : tie.After-enum-told) → (let a = start c .args in Decodes (a .column-type) (a .elements) (a .checksum) (now (a .page)) (length (now (a .out))) (a .start))
-passed c =
-    let a = start c .args in
-    decodes (a .column-type) (a .elements) (a .checksum) (now (a .page)) (length (now (a .out))) (a .start) (is-accepted c)
-
-decode-answer-requires : tie.Need-decode-answer-requires
-decode-answer-requires c κs = search needs
-
-enum-told : tie.Need-enum-told
-enum-told c = search needs
-
-mul-fill : tie.Need-mul-fill
-mul-fill c = omega (arith, passed c .room)
-
-sub-fill : tie.Need-sub-fill
-sub-fill c = omega (arith, passed c .room)
-
-part-fill-start : tie.Need-part-fill-start
-part-fill-start c = omega (arith, passed c .room)
-
-part-fill-end : tie.Need-part-fill-end
-part-fill-end c = search needs
-
-fill-requires : tie.Need-fill-requires
-fill-requires c κs = let p = passed (c .before) in
-    let a = start (c .before) .args in
-    let r = rest-of (a .start) (now (a .out)) in
-    (p .sized .is-readable, omega (arith, p .sized .long), rw r (omega (arith, p .room, length-drop (a .start) (now (a .out)))))
-
-enum-told-2 : tie.Need-enum-told-2
-enum-told-2 c = search needs
+decode-as-requires : tie.Need-decode-as-requires
+decode-as-requires c κs = search needs
 
 same-length : tie.Need-same-length
 same-length c = search needs
 
 returns : tie.Need-returns
-returns c = let d = c .before .before .before .before in
-    let a = start d .args in
-    let old : List ℕ = now (a .out) in (
-      d .before .before .decode-answer .ensures,
-      put-rest (a .start) old (c .before .before .fill .last .1 .1 .1 .0)
-          ∙ ap (λ (l : List ℕ). take (a .start) old ++ l) (c .before .before .fill .ensures ∙ ap (over (elements (a .column-type) (a .elements) (now (a .page)))) (rest-of (a .start) old))
-          ∙ decoded-accepted (a .column-type) (a .elements) (a .checksum) (now (a .page)) old (a .start) (is-accepted d),
-    )
-
-returns-2 : tie.Need-returns-2
-returns-2 c = let a = c .before .before .before .before .before .args in (
-  c .before .before .decode-answer .ensures,
-  decoded-refused (a .column-type) (a .elements) (a .checksum) (now (a .page)) (now (a .out)) (a .start) (ap isAccepted (sym (c .before .before .decode-answer .ensures) ∙ ap outcomeOf (c .enum-told2 .given .1))),
-)
+returns c = let t = c .before .before .before .before .before .before .before .before .args .column-type in
+    let width = c .before .before .before .before .before .width-of .ensures in
+    let d = c .before .before .decode-as .ensures in
+    (d .0 t width, d .1 t width (c .before .before .before .before .marks-of .ensures))
 
 pub decode-page-spec : {M : Type 1} → statement M
-decode-page-spec =
-    tie.close
-    (tie.spec
-    decode-answer-requires
-    enum-told
-    mul-fill
-    sub-fill
-    part-fill-start
-    part-fill-end
-    fill-requires
-    enum-told-2
-    same-length
-    returns
-    returns-2)
+decode-page-spec = tie.close (tie.spec width-of-requires marks-of-requires decode-as-requires same-length returns)

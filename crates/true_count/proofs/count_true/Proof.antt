@@ -1,10 +1,11 @@
 -- `true_count::count_true` meets its contract: the refusal is that of decoding, and the ones of an accepted page's bytes are counted. Assumes nothing.
-use mathlib.Core.Path.{_≡_, sym, ap, _∙_}
+use mathlib.Core.Path.{_≡_, refl, sym, ap, _∙_}
 use native.Mathlib.Omega.{arith}
 use denote.Ref.{now}
 use lib.ListN.{length-take}
 use borrow.Author.Needs.{needs}
 use Rattle.page_rules.specs.Page.{outcomeOf, accept, refuse}
+use Rattle.page_rules.proofs.Types.{bit-width}
 use Rattle.true_count.proofs.Counting.{answer, Accepts, accepts, refused-so, counted-so, front-long, trues-counted}
 use Rattle.true_count.proofs.count_true.Statement.{statement}
 use Rattle.true_count.proofs.count_true.Tie as tie
@@ -15,7 +16,7 @@ abbrev start : tie.After-enum-told → tie.Start
 start c = c .before .before .before .before
 
 said : (c : tie.After-enum-told) → (let a = start c .args in accept (c .enum-told .given .0 .0) ≡ answer (a .elements) (a .checksum) (now (a .page)))
-said c = sym (ap outcomeOf (c .enum-told .given .1)) ∙ c .before .before .decode-answer .ensures
+said c = sym (ap outcomeOf (c .enum-told .given .1)) ∙ c .before .before .decode-answer .ensures .0 6 (sym (bit-width 6 refl))
 
 accepted : (c : tie.After-enum-told) → (let a = start c .args in Accepts (a .elements) (a .checksum) (now (a .page)))
 accepted c = let a = start c .args in
@@ -23,7 +24,7 @@ accepted c = let a = start c .args in
 
 -- and of one that is refused
 refused : (c : tie.After-known-told) → (let a = c .before .before .before .before .before .args in refuse (c .before .number .given .0 .0) ≡ answer (a .elements) (a .checksum) (now (a .page)))
-refused c = sym (ap outcomeOf (c .before .number .given .1)) ∙ c .before .before .before .decode-answer .ensures
+refused c = sym (ap outcomeOf (c .before .number .given .1)) ∙ c .before .before .before .decode-answer .ensures .0 6 (sym (bit-width 6 refl))
 
 decode-answer-requires : tie.Need-decode-answer-requires
 decode-answer-requires c κs = search needs

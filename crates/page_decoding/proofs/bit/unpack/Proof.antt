@@ -4,20 +4,19 @@ use mathlib.Core.List.{List, _++_}
 use Prim.Native.Nat.{ℕ, _+_, _*_, _-_, _/_, _%_, _≤_}
 use native.Mathlib.Nat.{zero-add}
 use native.Mathlib.Omega.{arith}
-use lib.ListN.{length, take, drop, length-drop}
+use lib.ListN.{length, take, drop}
 use denote.Ref.{now}
 use borrow.Rule.Slice.PartMut.{putMid}
 use Rattle.numbers.specs.Rows.{over}
-use Rattle.numbers.proofs.Parts.{over-length, rest-of, put-rest}
 use Rattle.coding.specs.Layout.{unpacked}
 use Rattle.coding.proofs.Bits.{length-unpacked, unpacked-more}
-use Rattle.coding.proofs.Plain.{over-more}
+use Rattle.page_decoding.proofs.Blocks.{Laid, laid-more, laid-room}
 use Rattle.page_decoding.proofs.bit.unpack.Statement.{statement}
 use Rattle.page_decoding.proofs.bit.unpack.Tie as tie
 
 -- the first k words are the first k bits of the page, and the others as they were
 abbrev Unpacked : List ℕ → List ℕ → ℕ → List ℕ → Type 0
-Unpacked page out₀ k out = (out ≡ over (unpacked k 0 page) out₀) × (length out ≡ length out₀)
+Unpacked page out₀ k out = Laid (unpacked k 0 page) out₀ out
 
 -- the bits of byte m more, as their part is lent and put back
 more : (page out₀ out new : List ℕ) (m k n : ℕ) → 8 * m + k ≡ n → n ≤ length out₀ → Unpacked page out₀ (8 * m) out
@@ -28,17 +27,7 @@ more page out₀ out new m k n total room u e =
     let next : List ℕ = unpacked k (8 * m) page in
     let joined : first ++ next ≡ unpacked n 0 page =
     ap (λ (i : ℕ). first ++ unpacked k i page) (sym (zero-add (8 * m))) ∙ sym (unpacked-more (8 * m) k 0 page) ∙ ap (λ (i : ℕ). unpacked i 0 page) total in
-    let is : putMid (8 * m) (length out - 8 * m) out new ≡ over (unpacked n 0 page) out₀ =
-    put-rest (8 * m) out new
-    ∙ ap (λ (l : List ℕ). take (8 * m) out ++ l) (e ∙ ap (over next) (rest-of (8 * m) out))
-    ∙ ap (λ (o : List ℕ). take (8 * m) o ++ over next (drop (8 * m) o)) (u .0)
-    ∙ over-more (8 * m) first next out₀ (length-unpacked (8 * m) 0 page)
-    ∙ ap (λ (l : List ℕ). over l out₀) joined in
-    (is, ap length is ∙ over-length (unpacked n 0 page) out₀ (omega (arith, length-unpacked n 0 page)))
-
--- the part that is lent has room for them
-room-for : (out : List ℕ) (m k : ℕ) → 8 * m + k ≤ length out → k ≤ length (take (length out - 8 * m) (drop (8 * m) out))
-room-for out m k h = rw (rest-of (8 * m) out) (omega (arith, length-drop (8 * m) out))
+    laid-more (8 * m) first next (unpacked n 0 page) out₀ out new (length-unpacked (8 * m) 0 page) joined (omega (arith, length-unpacked n 0 page)) u e
 
 abbrev Inv-loop : tie.InvT-loop
 Inv-loop page n out₀ whole m₀ out m = (m ≤ n / 8) × Unpacked page out₀ (8 * m) out
@@ -67,7 +56,7 @@ part-bits-out-end c = omega arith
 
 bits-out-requires : tie.Need-bits-out-requires Inv-loop μ-loop
 bits-out-requires c κs = let l = c .before .before .loop in
-    (omega arith, omega arith, room-for (l .out) (l .m) 8 (omega arith))
+    (omega arith, omega arith, laid-room (8 * l .m) 8 (l .out) (omega arith))
 
 add-m : tie.Need-add-m Inv-loop μ-loop
 add-m c = omega arith
@@ -99,7 +88,7 @@ part-bits-out-end-2 c = omega arith
 
 bits-out-requires-2 : tie.Need-bits-out-requires-2 Inv-loop μ-loop
 bits-out-requires-2 c κs = let a = c .before .before .before .before .before .before .args in
-    (omega arith, omega arith, room-for (c .before .before .before .loop .out) (a .n / 8) (a .n % 8) (omega arith))
+    (omega arith, omega arith, laid-room (8 * (a .n / 8)) (a .n % 8) (c .before .before .before .loop .out) (omega arith))
 
 -- the last byte, of fewer than eight elements
 last : (c : tie.After-slice-known3 Inv-loop μ-loop) (new : List ℕ) → let a = c .before .before .before .before .before .before .before .before .before .args in
