@@ -10,7 +10,7 @@ use Rattle.numbers.specs.Rows.{flat}
 use Rattle.rows.specs.Words.{bit}
 use Rattle.rows.specs.declared.PageRow.{PageRow}
 use Rattle.rows.proofs.TableLaws.{flat-is, flat-join, flat-length}
-use Rattle.figure_rules.specs.Report.{sizesOf, checkedOf, figureWidth, figuresOf, listFigures}
+use Rattle.figure_rules.specs.Report.{sizesOf, checksumsOf, figureWidth, figuresOf, listFigures}
 
 -- a sum over pages, with one page more
 sum-snoc : (f : PageRow → ℕ) (sum : List PageRow → ℕ) → sum [] ≡ 0 → ((p : PageRow) (ps : List PageRow) → sum (p ∷ ps) ≡ f p + sum ps)
@@ -22,9 +22,9 @@ pub sizes-snoc : (ps : List PageRow) (p : PageRow) → sizesOf (ps ++ (p ∷ [])
 unfolding sizesOf
 sizes-snoc = sum-snoc (λ p. p .size) sizesOf refl (λ p ps. refl)
 
-pub checked-snoc : (ps : List PageRow) (p : PageRow) → checkedOf (ps ++ (p ∷ [])) ≡ checkedOf ps + bit (p .checksum)
-unfolding checkedOf
-checked-snoc = sum-snoc (λ p. bit (p .checksum)) checkedOf refl (λ p ps. refl)
+pub checksums-snoc : (ps : List PageRow) (p : PageRow) → checksumsOf (ps ++ (p ∷ [])) ≡ checksumsOf ps + bit (p .checksum)
+unfolding checksumsOf
+checksums-snoc = sum-snoc (λ p. bit (p .checksum)) checksumsOf refl (λ p ps. refl)
 
 -- a page has a checksum or not, so each adds at most 1
 pub bit-most : (b : Bool) → bit b ≤ 1

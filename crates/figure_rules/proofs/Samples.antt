@@ -3,11 +3,11 @@
 use mathlib.Core.Path.{refl}
 use Rattle.numbers.specs.Rows.{flat}
 use Rattle.pages.specs.Pages.{elementsOf}
-use Rattle.figure_rules.specs.Report.{sizesOf, checkedOf, added, sumsFit, placed, taken, reported}
+use Rattle.figure_rules.specs.Report.{sizesOf, checksumsOf, added, sumsFit, placed, taken, reported}
 use Rattle.figure_rules.specs.Samples.{Samples}
 
 pub samples : Samples
-unfolding reported taken placed added sumsFit flat elementsOf sizesOf checkedOf
+unfolding reported taken placed added sumsFit flat elementsOf sizesOf checksumsOf
 samples =
     record {
       figures = refl;

@@ -40,15 +40,15 @@ unfoldable pub sizesOf : List PageRow → ℕ
 sizesOf [] = 0
 sizesOf (p ∷ ps) = p .size + sizesOf ps
 
-unfoldable pub checkedOf : List PageRow → ℕ
-checkedOf [] = 0
-checkedOf (p ∷ ps) = bit (p .checksum) + checkedOf ps
+unfoldable pub checksumsOf : List PageRow → ℕ
+checksumsOf [] = 0
+checksumsOf (p ∷ ps) = bit (p .checksum) + checksumsOf ps
 
 abbrev pub figureWidth : ℕ
 figureWidth = 4
 
 abbrev pub figuresOf : List PageRow → List ℕ
-figuresOf ps = length ps ∷ elementsOf ps ∷ sizesOf ps ∷ checkedOf ps ∷ []
+figuresOf ps = length ps ∷ elementsOf ps ∷ sizesOf ps ∷ checksumsOf ps ∷ []
 
 -- the figures of a page list, column by column
 abbrev pub listFigures : List (List PageRow) → List ℕ

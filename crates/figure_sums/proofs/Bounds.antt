@@ -12,7 +12,7 @@ use Rattle.numbers.specs.Rows.{flat}
 use Rattle.rows.specs.Words.{bit}
 use Rattle.rows.specs.declared.PageRow.{PageRow}
 use Rattle.pages.specs.Pages.{elementsOf}
-use Rattle.figure_rules.specs.Report.{sizesOf, checkedOf, listFigures, added, sumsFit}
+use Rattle.figure_rules.specs.Report.{sizesOf, checksumsOf, listFigures, added, sumsFit}
 use Rattle.figure_rules.proofs.Accepted.{SmallPage, SmallColumn}
 use Rattle.figure_rules.proofs.Figures.{bit-most}
 
@@ -35,12 +35,12 @@ sum-most f sum none one small ps column = let few = column .few in omega (arith,
     by (p ∷ ps) each = omega (arith, one p ps, small p (each .0), by ps (each .1))
 
 pub figures-most : (pss : List (List PageRow)) → Each SmallColumn pss → AtMost (2 ^ 45) (listFigures pss)
-unfolding flat elementsOf sizesOf checkedOf
+unfolding flat elementsOf sizesOf checksumsOf
 figures-most [] each k = omega arith
 figures-most (ps ∷ pss) each zero = let few = each .0 .few in omega arith
 figures-most (ps ∷ pss) each (suc zero) = sum-most (λ p. p .elements) elementsOf refl (λ p ps. refl) (λ p small. omega (arith, small .elementsFew)) ps (each .0)
 figures-most (ps ∷ pss) each (suc (suc zero)) = sum-most (λ p. p .size) sizesOf refl (λ p ps. refl) (λ p small. omega (arith, small .sizeFew)) ps (each .0)
-figures-most (ps ∷ pss) each (suc (suc (suc zero))) = sum-most (λ p. bit (p .checksum)) checkedOf refl (λ p ps. refl) (λ p small. omega (arith, bit-most (p .checksum))) ps (each .0)
+figures-most (ps ∷ pss) each (suc (suc (suc zero))) = sum-most (λ p. bit (p .checksum)) checksumsOf refl (λ p ps. refl) (λ p small. omega (arith, bit-most (p .checksum))) ps (each .0)
 figures-most (ps ∷ pss) each (suc (suc (suc (suc k)))) = figures-most pss (each .1) k
 
 -- sums

@@ -11,7 +11,7 @@ use Rattle.numbers.specs.Rows.{flat}
 use Rattle.header.specs.Beside.{Beside, read, refusal}
 use Rattle.rows.specs.declared.PageRow.{PageRow}
 use Rattle.pages.specs.Pages.{elementsOf}
-use Rattle.figure_rules.specs.Report.{sizesOf, checkedOf, figureWidth, figuresOf, listFigures, rowsFor}
+use Rattle.figure_rules.specs.Report.{sizesOf, checksumsOf, figureWidth, figuresOf, listFigures, rowsFor}
 use Rattle.figure_sums.specs.Orders.{Given, readBeside, State, fresh, countsIn, after, inOrder, shareOf, total, Sums, ExactSums, AnyOrder}
 use Rattle.figure_sums.specs.Calls.{ReportCalls, finished, goesOn, CallsCanBeMade, CallsInOrder, SumsOfCalls, CallsInAnyOrder, pagesTaken, FiguresByColumn}
 use Rattle.figure_sums.proofs.Sums.{exact-sums}
@@ -48,7 +48,7 @@ calls-in-any-order header n gs hs st other h p calls others = calls-in-order hea
 -- word i of row c of a list's figures is figure i of the pages of column c; without such a column both are 0
 
 zeros-at : (i : ℕ) → i < figureWidth → 0 ≡ getD (figuresOf []) i 0
-unfolding elementsOf sizesOf checkedOf
+unfolding elementsOf sizesOf checksumsOf
 zeros-at zero h = refl
 zeros-at (suc zero) h = refl
 zeros-at (suc (suc zero)) h = refl
@@ -88,7 +88,7 @@ figures-by-column header n gs st h calls c inside =
       pages = ap (λ (k : ℕ). getD (st .words) k 0) (omega arith) ∙ word 0 (omega arith);
       elements = word 1 (omega arith);
       sizes = word 2 (omega arith);
-      checked = word 3 (omega arith);
+      checksums = word 3 (omega arith);
     }
   where
     word : (i : ℕ) → i < figureWidth → getD (st .words) (figureWidth * c + i) 0 ≡ total (λ g. getD (figuresOf (pagesTaken n c (readBeside header g))) i 0) gs

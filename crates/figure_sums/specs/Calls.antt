@@ -9,7 +9,7 @@ use Rattle.rows.specs.declared.PageRow.{PageRow}
 use Rattle.pages.specs.Pages.{elementsOf}
 use Rattle.page_list.specs.Tables.{pageListBeside}
 use Rattle.figure_rules.specs.declared.ReportAnswer.{ReportAnswer}
-use Rattle.figure_rules.specs.Report.{sizesOf, checkedOf, figureWidth, rowsFor, mostLists, reported}
+use Rattle.figure_rules.specs.Report.{sizesOf, checksumsOf, figureWidth, rowsFor, mostLists, reported}
 use Rattle.figure_sums.specs.Orders.{Given, readBeside, State, fresh, countsIn, inOrder, total, Sums, Permutation}
 
 -- a call for a list: its answer, and the words of the report after it, as the contract of report_page_list has them
@@ -52,7 +52,7 @@ pub record ColumnSums (header : List ℕ) (n : ℕ) (gs : List Given) (c : ℕ) 
   pub pages : getD words (figureWidth * c) 0 ≡ total (λ g. length (pagesTaken n c (readBeside header g))) gs
   pub elements : getD words (figureWidth * c + 1) 0 ≡ total (λ g. elementsOf (pagesTaken n c (readBeside header g))) gs
   pub sizes : getD words (figureWidth * c + 2) 0 ≡ total (λ g. sizesOf (pagesTaken n c (readBeside header g))) gs
-  pub checked : getD words (figureWidth * c + 3) 0 ≡ total (λ g. checkedOf (pagesTaken n c (readBeside header g))) gs
+  pub checksums : getD words (figureWidth * c + 3) 0 ≡ total (λ g. checksumsOf (pagesTaken n c (readBeside header g))) gs
 
 unfoldable pub FiguresByColumn : Type 0
 FiguresByColumn =

@@ -15,7 +15,7 @@ use Rattle.page_figures.specs.declared.FiguresAnswer.the-variants.{Summe
 
 -- the words of a row
 abbrev pub figureWords : Figures → List ℕ
-figureWords f = f .pages ∷ f .elements ∷ f .sizes ∷ f .checked ∷ []
+figureWords f = f .pages ∷ f .elements ∷ f .sizes ∷ f .checksums ∷ []
 
 -- the answer in document 01's terms: the envelope and the number of a refusal, and the count of columns
 abbrev pub outcomeOf : FiguresAnswer → Outcome

@@ -24,7 +24,7 @@ pub struct Figures {
     pub pages: u64,
     pub elements: u64,
     pub sizes: u64,
-    pub checked: u64,
+    pub checksums: u64,
 }
 
 // Sums up a page list beside its header into the lent rows (4 words to a column), and answers.
@@ -42,7 +42,14 @@ pub fn page_figures(
     match verdict {
         Verdict::Agreed(accepted) => {
             let rows = judged.column_rows;
-            write_figures(page_list, accepted, &rows, judged.columns, file_length, figures)
+            write_figures(
+                page_list,
+                accepted,
+                &rows,
+                judged.columns,
+                file_length,
+                figures,
+            )
         }
         Verdict::Refused(envelope, number) => FiguresAnswer::Refused(envelope, number),
     }

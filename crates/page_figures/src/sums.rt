@@ -25,7 +25,7 @@ fn no_figures() -> Figures
         pages: 0,
         elements: 0,
         sizes: 0,
-        checked: 0,
+        checksums: 0,
     }
 }
 
@@ -44,7 +44,7 @@ fn sum_pages(
     let count = head.count;
     let mut elements: u64 = 0;
     let mut sizes: u64 = 0;
-    let mut checked: u64 = 0;
+    let mut checksums: u64 = 0;
     let mut i = 0;
     let mut at = head.start;
     while i < count {
@@ -52,7 +52,7 @@ fn sum_pages(
             PageStep::Found(row, next) => {
                 elements += row.elements;
                 sizes += row.size;
-                checked += cluster_rows::bit(row.checksum);
+                checksums += cluster_rows::bit(row.checksum);
                 at = next;
                 i += 1;
             }
@@ -65,7 +65,7 @@ fn sum_pages(
         pages: count as u64,
         elements,
         sizes,
-        checked,
+        checksums,
     }
 }
 
@@ -95,7 +95,7 @@ fn sum_columns(
             ListStep::Found(pages, stop) => {
                 let f = sum_pages(frames::up_to(s, stop), at, pages, column, bits, file);
                 let from = figure_rules::FIGURE_WORDS * i;
-                rows::put_words(figures, from, &[f.pages, f.elements, f.sizes, f.checked]);
+                rows::put_words(figures, from, &[f.pages, f.elements, f.sizes, f.checksums]);
                 total += pages.count;
                 at = stop;
                 i += 1;

@@ -20,7 +20,7 @@ same-length-2 : tie.Need-same-length-2
 same-length-2 c = search needs
 
 returns-2 : tie.Need-returns-2
-returns-2 c = report-called _ _ _ (c .before .before .before .before .before .before .report-page-list .result) (omega arith) (c .before .before .before .before .before .before .report-page-list .ensures .0) (c .before .before .before .before .before .before .report-page-list .ensures .2) (c .before .before .tell-report .ensures .0) (c .before .before .tell-report .ensures .1)
+returns-2 c = report-called _ _ _ (c .before .before .before .before .before .before .report-page-list .result) (omega arith) (c .before .before .before .before .before .before .report-page-list .ensures .0) (c .before .before .before .before .before .before .report-page-list .ensures .1 .1) (c .before .before .tell-report .ensures .0) (c .before .before .tell-report .ensures .1)
 
 pub report-page-list-spec : {M : Type 1} → statement M
 report-page-list-spec =

@@ -16,7 +16,7 @@ takes-more-requires c κs = search needs
 returns : tie.Need-returns
 returns c = let a = c .before .before .before .before .before .args in
     let e = reported-late _ (a .counts) (a .report .now) (ltb-false (a .counts .accepted + a .counts .refused) mostLists (sym (c .before .takes-more .ensures) ∙ not-true _ (c .if1 .taken))) in
-    (ap (λ (r : Report). r .answer) (sym e), ap (λ (r : Report). outcomeOf (r .answer)) (sym e), ap (λ (r : Report). r .words) (sym e))
+    (ap (λ (r : Report). r .answer) (sym e), (ap (λ (r : Report). outcomeOf (r .answer)) (sym e), ap (λ (r : Report). r .words) (sym e)))
 
 slice-aggregate-page-figures : tie.Need-slice-aggregate-page-figures
 slice-aggregate-page-figures c = search needs
@@ -70,13 +70,13 @@ returns-2 : tie.Need-returns-2
 returns-2 c = let a = c .before .before .before .before .before .before .before .before .before .before .before .before .before .before .before .before .args in
     let less = ltb-true (a .counts .accepted + a .counts .refused) mostLists (sym (c .before .before .before .before .before .before .before .before .before .before .before .before .takes-more .ensures) ∙ not-false _ (c .before .before .before .before .before .before .before .before .before .before .before .if1 .left)) in
     let e = reported-placed (a .header .now) (a .page-list .now) (a .entries) (a .file-length) (a .counts) (a .report .now) less (c .before .before .before .before .before .before .before .before .before .page-figures .ensures) (c .before .before .before .before .before .before .columns .given .1) in
-    (c .before .before .place .ensures .0 ∙ ap (λ (r : Report). r .answer) (sym e), ap outcomeOf (c .before .before .place .ensures .0) ∙ ap (λ (r : Report). outcomeOf (r .answer)) (sym e), c .before .before .place .ensures .1 ∙ ap (λ (r : Report). r .words) (sym e))
+    (c .before .before .place .ensures .0 ∙ ap (λ (r : Report). r .answer) (sym e), (ap outcomeOf (c .before .before .place .ensures .0) ∙ ap (λ (r : Report). outcomeOf (r .answer)) (sym e), c .before .before .place .ensures .1 ∙ ap (λ (r : Report). r .words) (sym e)))
 
 returns-3 : tie.Need-returns-3
 returns-3 c = let a = c .before .before .before .before .before .before .before .before .before .before .before .before .args in
     let less = ltb-true (a .counts .accepted + a .counts .refused) mostLists (sym (c .before .before .before .before .before .before .before .before .takes-more .ensures) ∙ not-false _ (c .before .before .before .before .before .before .before .if1 .left)) in
     let e = reported-refused (a .header .now) (a .page-list .now) (a .entries) (a .file-length) (a .counts) (a .report .now) less (c .before .before .before .before .before .page-figures .ensures) (c .before .before .envelope .given .1) in
-    (ap (λ (r : Report). r .answer) (sym e), ap (λ (r : Report). outcomeOf (r .answer)) (sym e), ap (λ (r : Report). r .words) (sym e))
+    (ap (λ (r : Report). r .answer) (sym e), (ap (λ (r : Report). outcomeOf (r .answer)) (sym e), ap (λ (r : Report). r .words) (sym e)))
 
 pub report-page-list-spec : {M : Type 1} → statement M
 report-page-list-spec =

@@ -9,10 +9,10 @@ use Rattle.page_figures.proofs.sums.sum_pages.Statement.{statement}
 use Rattle.page_figures.proofs.sums.sum_pages.Tie as tie
 
 abbrev Inv-loop : tie.InvT-loop
-Inv-loop s list column bits file count elements₀ sizes₀ checked₀ i₀ at₀ elements sizes checked i at = Summed file (column .0) bits list count s at₀ i at elements sizes checked
+Inv-loop s list column bits file count elements₀ sizes₀ checksums₀ i₀ at₀ elements sizes checksums i at = Summed file (column .0) bits list count s at₀ i at elements sizes checksums
 
 abbrev μ-loop : tie.MeasureT-loop
-μ-loop s list column bits file count elements₀ sizes₀ checked₀ i₀ at₀ elements sizes checked i at = count - i
+μ-loop s list column bits file count elements₀ sizes₀ checksums₀ i₀ at₀ elements sizes checksums i at = count - i
 
 loop-holds : tie.Need-loop-holds Inv-loop μ-loop
 loop-holds c = summed-none
@@ -32,8 +32,8 @@ add-sizes c = let p = c .before .before .before .before .before .before .before 
 bit-requires : tie.Need-bit-requires Inv-loop μ-loop
 bit-requires c κs = search needs
 
-add-checked : tie.Need-add-checked Inv-loop μ-loop
-add-checked c = let p = c .before .before .before .before .before .before .before .before .before .before .pre .1 in let b = c .bit .ensures in omega (arith, summed-fits (c .before .before .before .before .before .before .before .before .loop .inv) (omega arith) (sym (c .before .before .before .before .before .before .page-at .ensures .0) ∙ ap pageStep (c .before .before .before .before .row .given .1)) .2)
+add-checksums : tie.Need-add-checksums Inv-loop μ-loop
+add-checksums c = let p = c .before .before .before .before .before .before .before .before .before .before .pre .1 in let b = c .bit .ensures in omega (arith, summed-fits (c .before .before .before .before .before .before .before .before .loop .inv) (omega arith) (sym (c .before .before .before .before .before .before .page-at .ensures .0) ∙ ap pageStep (c .before .before .before .before .row .given .1)) .2)
 
 add-i : tie.Need-add-i Inv-loop μ-loop
 add-i c = omega arith
@@ -68,7 +68,7 @@ sum-pages-spec =
     add-elements
     add-sizes
     bit-requires
-    add-checked
+    add-checksums
     add-i
     loop-less
     loop-again
