@@ -1,6 +1,7 @@
 // The figures of one page list: how many pages each column has, their elements, their stored sizes, and how many have a checksum.
 mod sums;
 
+use header_schema::HeaderVerdict;
 use page_list::Judged;
 use page_list::Verdict;
 ghost use mathlib.Core.Path.{_≡_};
@@ -37,21 +38,31 @@ pub fn page_figures(
 ) -> FiguresAnswer
     ensures { λ r. ⌜ Answered (pageListBeside (now (header .entry)) (now («page_list» .entry)) entries «file_length») (now (figures .entry)) (now (figures .exit)) r ⌝ }
 {
-    let judged = page_list::judge::judge_page_list(header, page_list, entries, file_length);
-    let verdict = judged.verdict;
+    let schema = header_schema::read_schema(header);
+    let verdict = schema.verdict;
     match verdict {
-        Verdict::Agreed(accepted) => {
-            let rows = judged.column_rows;
-            write_figures(
+        HeaderVerdict::Accepted => {
+            let n = schema.fields;
+            let parents = schema.parents;
+            let flags = schema.flags;
+            let rows = schema.column_rows;
+            let columns = schema.columns;
+            match page_list::judge::judge(
                 page_list,
-                accepted,
+                &parents[..n],
+                &flags[..n],
                 &rows,
-                judged.columns,
+                columns,
+                entries,
                 file_length,
-                figures,
-            )
+            ) {
+                Verdict::Agreed(judged) => {
+                    write_figures(page_list, judged, &rows, columns, file_length, figures)
+                }
+                Verdict::Refused(number) => FiguresAnswer::Refused(3, number),
+            }
         }
-        Verdict::Refused(envelope, number) => FiguresAnswer::Refused(envelope, number),
+        HeaderVerdict::Refused(f) => FiguresAnswer::Refused(1, f.number),
     }
 }
 

@@ -1,6 +1,6 @@
 -- From the verdict on a page list to the answer, and to the lent table.
 use Prim.Native.Nat.{ℕ, _*_, _/_, _≤_, _<_}
-use mathlib.Core.Path.{_≡_, refl, sym, ap, subst, _∙_}
+use mathlib.Core.Path.{_≡_, refl, sym, ap, _∙_}
 use mathlib.Core.Bool.{Bool, true}
 use mathlib.Core.List.{List, [], _∷_}
 use native.Mathlib.Omega.{arith}
@@ -17,8 +17,7 @@ use Rattle.column_pages.specs.ColumnPages.{pagesOf, payload}
 use Rattle.page_list.specs.Tables.{pageTable, answer, written, Answered}
 use Rattle.page_list.specs.Judged.{listed, Stands, Judges}
 use Rattle.page_list.specs.declared.Judged.{Judged}
-use Rattle.page_list.specs.declared.Verdict.{Verdict}
-use Rattle.page_list.specs.declared.Verdict.the-variants.{Agreed, Refused as VerdictRefused}
+use Rattle.page_list.specs.declared.Verdict.the-variants.{Agreed, Refused as Judged-refused}
 use Rattle.page_list.specs.declared.PageListAnswer.the-variants.{Accepted, Refused}
 
 -- a refusal changes no table
@@ -28,32 +27,26 @@ beside-refused p e = record { answers = rw e; reports = rw e; pagesAre = rw e }
 
 -- what a verdict tells
 
-pub record Refuses (x : Beside (List (List PageRow))) (k n : ℕ) : Type 0 where
+pub record Refuses (x : Step (List (List PageRow))) (k : ℕ) : Type 0 where
   pub fault : Fault
-  pub was : x ≡ refusal k fault
-  pub number : n ≡ fault .number
+  pub was : x ≡ refused fault
+  pub number : k ≡ fault .number
 
-pub record Agrees (file : ℕ) (bits e : List ℕ) (x : Beside (List (List PageRow))) (j : Judged) : Type 0 where
+pub refuses : (file : ℕ) (bits e : List ℕ) (x : Step (List (List PageRow))) {k : ℕ} → Judges file bits e x (Judged-refused k) → Refuses x k
+unfolding Judges
+refuses file bits e (found pss p) j = absurd j
+refuses file bits e (refused f) j = record { fault = f; was = refl; number = j }
+
+pub record Agrees (file : ℕ) (bits e : List ℕ) (x : Step (List (List PageRow))) (j : Judged) : Type 0 where
   pub value : List (List PageRow)
-  pub was : x ≡ read value
+  pub place : ℕ
+  pub was : x ≡ found value place
   pub stands : Stands file bits e j value
 
-module _ (file : ℕ) (bits e : List ℕ) (x : Beside (List (List PageRow))) {v : Verdict} (judged : Judges file bits e x v) where
-  pub refuses : {k n : ℕ} → v ≡ VerdictRefused k n → Refuses x k n
-  unfolding Judges
-  refuses {k} {n} is = by x (subst (Judges file bits e x) is judged)
-    where
-      by : (x : Beside (List (List PageRow))) → Judges file bits e x (VerdictRefused k n) → Refuses x k n
-      by (read pss) j = absurd j
-      by (refusal i f) j = record { fault = f; was = ap (λ (m : ℕ). refusal m f) (sym (j .0)); number = j .1 }
-
-  pub agrees : {j : Judged} → v ≡ Agreed j → Agrees file bits e x j
-  unfolding Judges
-  agrees {j} is = by x (subst (Judges file bits e x) is judged)
-    where
-      by : (x : Beside (List (List PageRow))) → Judges file bits e x (Agreed j) → Agrees file bits e x j
-      by (read pss) t = record { value = pss; was = refl; stands = t }
-      by (refusal i f) t = absurd t
+pub agrees : (file : ℕ) (bits e : List ℕ) (x : Step (List (List PageRow))) {j : Judged} → Judges file bits e x (Agreed j) → Agrees file bits e x j
+unfolding Judges
+agrees file bits e (found pss p) t = record { value = pss; place = p; was = refl; stands = t }
+agrees file bits e (refused f) t = absurd t
 
 -- a table with too little room, and one with room
 

@@ -16,11 +16,13 @@ use Rattle.outcome.specs.Outcome.{acceptedWith}
 use Rattle.envelope.specs.Envelope.{Versions, whole, opened, envelope, versioned}
 use Rattle.frames.proofs.Laws.{Closed, closed-found}
 use Rattle.frames.proofs.Loops.{list-passed}
-use Rattle.header.specs.Header.{Lists}
+use Rattle.header.specs.Header.{Lists, flagsOf}
+use Rattle.header.specs.Tables.{parentsOf}
 use Rattle.header.specs.Beside.{Beside, read, refusal, inEnvelope}
 use Rattle.rows.specs.Words.{mostFields, mostColumns, pageWidth}
 use Rattle.rows.specs.Tables.{columnsIn}
 use Rattle.rows.specs.declared.FieldNumber.{FieldNumber}
+use Rattle.rows.specs.declared.ColumnRow.{ColumnRow}
 use Rattle.rows.specs.declared.PageRow.{PageRow}
 use Rattle.totals.specs.Totals.{totals}
 use Rattle.totals.specs.declared.Totals.{Totals}
@@ -30,9 +32,9 @@ use Rattle.column_pages.specs.ColumnPages.{bitsOf, pagesOf, pagesAfter, perColu
 use Rattle.column_pages.specs.Answers.{bitsIn, sumsOf}
 use Rattle.column_pages.specs.declared.Sums.{Sums}
 use Rattle.column_pages.proofs.ColumnLaws.{bits-length, count-passes}
-use Rattle.page_list.specs.PageList.{totalFault, totalsOf, summed}
+use Rattle.page_list.specs.PageList.{totalFault, summed}
 use Rattle.page_list.specs.Schema.{SchemaOf}
-use Rattle.page_list.specs.Judged.{listed, Stands, Judges}
+use Rattle.page_list.specs.Judged.{summedBy, Stands, Judges}
 use Rattle.page_list.specs.declared.Judged.{Judged}
 use Rattle.page_list.specs.declared.Verdict.the-variants.{Agreed, Refused}
 
@@ -64,28 +66,24 @@ scan-refused (refused h) {r} {f} is e =
     let same : h ≡ f = cc in
     ap (λ (x : Fault). refused x) same
 
--- the same payload by a header's lists
-same : (strict : Bool) (file : ℕ) (s parents flags table : List ℕ) (n : ℕ) (l : Lists) → SchemaOf l parents flags table n
-    → whole strict (payload file (bitsOf (l .columns)) strict) s 4 ≡ whole strict (payload file (bitsIn table n) strict) s 4
-same strict file s parents flags table n l o = ap (λ (bits : List ℕ). whole strict (payload file bits strict) s 4) (sym (o .bitsAre))
-
 -- a verdict that refuses, and one that accepts
 
-pub judges-refused : {x : Beside (List (List PageRow))} {k : ℕ} {f : Fault} (file : ℕ) (bits e : List ℕ) → x ≡ refusal k f → Judges file bits e x (Refused k (f .number))
+pub judges-refused : {x : Step (List (List PageRow))} {f : Fault} (file : ℕ) (bits e : List ℕ) → x ≡ refused f → Judges file bits e x (Refused (f .number))
 unfolding Judges
-judges-refused file bits e w = rw w (refl, refl)
+judges-refused file bits e w = rw w refl
 
-judges-agreed : {x : Beside (List (List PageRow))} {pss : List (List PageRow)} (file : ℕ) (bits e : List ℕ) (j : Judged) → x ≡ read pss → Stands file bits e j pss → Judges file bits e x (Agreed j)
+judges-agreed : {x : Step (List (List PageRow))} {pss : List (List PageRow)} {p : ℕ} (file : ℕ) (bits e : List ℕ) (j : Judged) → x ≡ found pss p → Stands file bits e j pss
+    → Judges file bits e x (Agreed j)
 unfolding Judges
 judges-agreed file bits e j w t = rw w t
 
 -- a payload that a scan refuses
-pub judged-refused : (strict : Bool) (file : ℕ) (s parents flags table : List ℕ) (n : ℕ) (l : Lists) → SchemaOf l parents flags table n → (entries : ℕ) {r : Sums} {g : Fault} (e : List ℕ)
+pub judged-refused : (strict : Bool) (file : ℕ) (s table : List ℕ) (n entries : ℕ) (columns : List ColumnRow) (parents flags : List ℕ) {r : Sums} {g : Fault} (e : List ℕ)
     → r ≡ sumsOf (whole strict (payload file (bitsIn table n) strict) s 4) → r .pages ≡ Missed g
-    → Judges file (bitsIn table n) e (inEnvelope 3 (summed entries l (whole strict (payload file (bitsOf (l .columns)) strict) s 4))) (Refused 3 (g .number))
-unfolding summed
-judged-refused strict file s parents flags table n l o entries e is w =
-    judges-refused file (bitsIn table n) e (ap (λ (x : Step (List (List PageRow))). inEnvelope 3 (summed entries l x)) (same strict file s parents flags table n l o ∙ scan-refused (whole strict (payload file (bitsIn table n) strict) s 4) is w))
+    → Judges file (bitsIn table n) e (summedBy entries columns parents flags (whole strict (payload file (bitsIn table n) strict) s 4)) (Refused (g .number))
+unfolding summedBy
+judged-refused strict file s table n entries columns parents flags e is w =
+    judges-refused file (bitsIn table n) e (ap (summedBy entries columns parents flags) (scan-refused (whole strict (payload file (bitsIn table n) strict) s 4) is w))
 
 -- a payload that was found by a scan
 module _ (strict : Bool) (file : ℕ) (s table : List ℕ) (n : ℕ) {r : Sums} (is : r ≡ sumsOf (whole strict (payload file (bitsIn table n) strict) s 4)) {k q : ℕ} (e : r .pages ≡ Found k q) where
@@ -112,24 +110,21 @@ module _ (strict : Bool) (file : ℕ) (s table : List ℕ) (n : ℕ) {r : Sums} 
   sums-are : take n (r .elements) ≡ map elementsOf (m .value)
   sums-are = ap (take n) (m .elements) ∙ take-at (map elementsOf (m .value)) _ n (length-map (m .value) elementsOf ∙ passed .1)
 
-  module _ (entries : ℕ) (parents flags : List ℕ) (l : Lists) (o : SchemaOf l parents flags table n)
-      {t : Totals} (told : t ≡ totals entries (columnsIn table n) (take n (r .elements)) 0 (take mostFields parents) flags) where
-    outcome : totalsOf entries l (m .value) ≡ t
-    outcome = sym (told ∙ (λ j. totals entries (o .columnsAre j) (sums-are j) 0 (o .parentsAre j) (o .flagsAre j)))
+  module _ (entries : ℕ) (parents flags : List ℕ) {t : Totals} (told : t ≡ totals entries (columnsIn table n) (take n (r .elements)) 0 (take mostFields parents) flags) where
+    outcome : totals entries (columnsIn table n) (map elementsOf (m .value)) 0 (take mostFields parents) flags ≡ t
+    outcome = sym (told ∙ (λ j. totals entries (columnsIn table n) (sums-are j) 0 (take mostFields parents) flags))
 
-    stands : whole strict (payload file (bitsOf (l .columns)) strict) s 4 ≡ found (m .value) q
-    stands = same strict file s parents flags table n l o ∙ m .was
-
-    pub judged-wrong : {f : FieldNumber} (e′ : List ℕ) → t ≡ Differ f → Judges file (bitsIn table n) e′ (inEnvelope 3 (summed entries l (whole strict (payload file (bitsOf (l .columns)) strict) s 4))) (Refused 3 19)
-    unfolding summed
-    judged-wrong {f} e′ d = judges-refused {f = totalFault (f .0)} file (bitsIn table n) e′ (rw (stands, outcome, d))
+    pub judged-wrong : {f : FieldNumber} (e′ : List ℕ) → t ≡ Differ f
+        → Judges file (bitsIn table n) e′ (summedBy entries (columnsIn table n) (take mostFields parents) flags (whole strict (payload file (bitsIn table n) strict) s 4)) (Refused 19)
+    unfolding summedBy
+    judged-wrong {f} e′ d = judges-refused {f = totalFault (f .0)} file (bitsIn table n) e′ (rw (m .was, outcome, d))
 
     pub judged-right : (stop : ℕ) (e′ : List ℕ) → s ≡ take stop e′ → t ≡ Agree
-        → Judges file (bitsIn table n) e′ (inEnvelope 3 (summed entries l (whole strict (payload file (bitsOf (l .columns)) strict) s 4))) (Agreed (record { stop = stop; strict = strict; pages = k }))
-    unfolding summed
+        → Judges file (bitsIn table n) e′ (summedBy entries (columnsIn table n) (take mostFields parents) flags (whole strict (payload file (bitsIn table n) strict) s 4)) (Agreed (record { stop = stop; strict = strict; pages = k }))
+    unfolding summedBy
     judged-right stop e′ cut a =
         let there : payload file (bitsIn table n) strict (take stop e′) 4 ≡ found (m .value) (stood .end) = ap (λ (x : List ℕ). payload file (bitsIn table n) strict x 4) (sym cut) ∙ stood .was in
-        judges-agreed file (bitsIn table n) e′ (record { stop = stop; strict = strict; pages = k }) (rw (stands, outcome, a))
+        judges-agreed {p = q} file (bitsIn table n) e′ (record { stop = stop; strict = strict; pages = k }) (rw (m .was, outcome, a))
         (record { stood = rw there; rowsAre = rw there; count = m .count })
 
 -- an envelope
@@ -138,6 +133,18 @@ pub envelope-open : (file : ℕ) (bits e : List ℕ) {v : Versions} {stop : ℕ}
 unfolding versioned
 envelope-open file bits e o = rw o
 
-pub envelope-refused : (file : ℕ) (bits e bits′ : List ℕ) (entries : ℕ) (l : Lists) {g : Fault} → opened 1 e ≡ refused g → Judges file bits′ e (inEnvelope 3 (summed entries l (envelope 1 (payload file bits) e))) (Refused 3 (g .number))
-unfolding versioned summed
-envelope-refused file bits e bits′ entries l {g} o = judges-refused {f = g} file bits′ e (rw o)
+pub envelope-refused : (file : ℕ) (bits e bits′ : List ℕ) (entries : ℕ) (columns : List ColumnRow) (parents flags : List ℕ) {g : Fault} → opened 1 e ≡ refused g
+    → Judges file bits′ e (summedBy entries columns parents flags (envelope 1 (payload file bits) e)) (Refused (g .number))
+unfolding versioned summedBy
+envelope-refused file bits e bits′ entries columns parents flags {g} o = judges-refused {f = g} file bits′ e (rw o)
+
+-- by what a header's lists have it is the page list's own
+pub summed-same : (entries file : ℕ) (l : Lists) (parents flags table : List ℕ) (n : ℕ) (e : List ℕ) → SchemaOf l parents flags table n
+    → summedBy entries (columnsIn table n) (take mostFields parents) flags (envelope 1 (payload file (bitsIn table n)) e) ≡ summed entries l (envelope 1 (payload file (bitsOf (l .columns))) e)
+unfolding summedBy summed
+summed-same entries file l parents flags table n e o =
+    (λ j. summedBy entries (o .columnsAre j) (o .parentsAre j) (o .flagsAre j) (envelope 1 (payload file (o .bitsAre j)) e)) ∙ by (envelope 1 (payload file (bitsOf (l .columns))) e)
+  where
+    by : (x : Step (List (List PageRow))) → summedBy entries (l .columns) (parentsOf (l .fields)) (flagsOf (l .fields)) x ≡ summed entries l x
+    by (found pss p) = refl
+    by (refused f) = refl

@@ -1,23 +1,24 @@
 -- The verdict on a page list beside a header, before any row of it is written.
 use Prim.Native.Nat.{ℕ}
-use mathlib.Core.List.{List}
+use mathlib.Core.List.{List, map}
 use mathlib.Core.Bool.{true}
 use mathlib.Core.Path.{_≡_}
 use lib.ListN.{take}
-use Rattle.wire.specs.Reading.{Step, accepted, rowsOf}
-use Rattle.envelope.specs.Envelope.{checksumOf}
-use Rattle.header.specs.Tables.{headerOf}
-use Rattle.header.specs.Beside.{Beside, read, refusal}
-use Rattle.header_schema.specs.Schema.{schemaOf}
-use Rattle.header_schema.specs.declared.Schema.{Schema}
+use Rattle.wire.specs.Reading.{Step, found, refused, accepted, rowsOf}
+use Rattle.rows.specs.declared.ColumnRow.{ColumnRow}
 use Rattle.rows.specs.declared.PageRow.{PageRow}
+use Rattle.pages.specs.Pages.{elementsOf}
+use Rattle.totals.specs.Totals.{totals}
 use Rattle.column_pages.specs.ColumnPages.{pagesOf, payload}
-use Rattle.column_pages.specs.Answers.{bitsIn}
-use Rattle.page_list.specs.Tables.{pageListBeside}
+use Rattle.page_list.specs.PageList.{agreed}
 use Rattle.page_list.specs.declared.Judged.{Judged}
-use Rattle.page_list.specs.declared.JudgedList.{JudgedList}
 use Rattle.page_list.specs.declared.Verdict.{Verdict}
 use Rattle.page_list.specs.declared.Verdict.the-variants.{Agreed, Refused}
+
+-- after the payload, by rows of columns, and the parent and the flags of each field: the totals agree with the cluster's entry count
+unfoldable pub summedBy : ℕ → List ColumnRow → List ℕ → List ℕ → Step (List (List PageRow)) → Step (List (List PageRow))
+summedBy entries columns parents flags (found pss p) = agreed (totals entries columns (map elementsOf pss) 0 parents flags) (found pss p)
+summedBy entries columns parents flags (refused f) = refused f
 
 -- the payload up to where a verdict says it ends, where the elements of each column have these bits
 abbrev pub listed : ℕ → List ℕ → List ℕ → Judged → Step (List (List PageRow))
@@ -30,14 +31,8 @@ pub record Stands (file : ℕ) (bits e : List ℕ) (j : Judged) (pss : List (Lis
   pub count : j .pages ≡ pagesOf pss
 
 -- a verdict on a page list that was read, or refused
-unfoldable pub Judges : ℕ → List ℕ → List ℕ → Beside (List (List PageRow)) → Verdict → Type 0
-Judges file bits e (read pss) (Agreed j) = Stands file bits e j pss
-Judges file bits e (read pss) (Refused k n) = ⊥
-Judges file bits e (refusal i f) (Agreed j) = ⊥
-Judges file bits e (refusal i f) (Refused k n) = (k ≡ i) × (n ≡ f .number)
-
--- all that is known of a page list: the verdict on it, and the columns of its header, none where that is refused
-pub record JudgedBy (header list : List ℕ) (entries file : ℕ) (r : JudgedList) : Type 0 where
-  pub columnsAre : r .columns ≡ schemaOf (checksumOf header) (headerOf header) .columns
-  pub columnRowsAre : r .«column_rows» ≡ schemaOf (checksumOf header) (headerOf header) .«column_rows»
-  pub verdictIs : Judges file (bitsIn (r .«column_rows») (r .columns)) list (pageListBeside header list entries file) (r .verdict)
+unfoldable pub Judges : ℕ → List ℕ → List ℕ → Step (List (List PageRow)) → Verdict → Type 0
+Judges file bits e (found pss p) (Agreed j) = Stands file bits e j pss
+Judges file bits e (found pss p) (Refused k) = ⊥
+Judges file bits e (refused f) (Agreed j) = ⊥
+Judges file bits e (refused f) (Refused k) = k ≡ f .number

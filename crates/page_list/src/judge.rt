@@ -1,67 +1,20 @@
 // The verdict on a page list, before any row of it is written.
 use envelope::OpenStep;
-use header_schema::HeaderVerdict;
 use totals::Totals;
 use wire::NumberStep;
 ghost use Rattle.envelope.specs.Envelope.{envelope};
-ghost use Rattle.header.specs.Header.{Lists};
-ghost use Rattle.header.specs.Beside.{inEnvelope};
-ghost use Rattle.column_pages.specs.ColumnPages.{bitsOf, payload};
+ghost use lib.ListN.{take};
+ghost use Rattle.rows.specs.Words.{mostFields};
+ghost use Rattle.rows.specs.Tables.{columnsIn};
+ghost use Rattle.column_pages.specs.ColumnPages.{payload};
 ghost use Rattle.column_pages.specs.Answers.{bitsIn};
-ghost use Rattle.page_list.specs.PageList.{summed};
-ghost use Rattle.page_list.specs.Schema.{SchemaOf};
-ghost use Rattle.page_list.specs.Judged.{Judges, JudgedBy};
+ghost use Rattle.page_list.specs.Judged.{summedBy, Judges};
 use crate::Judged;
-use crate::JudgedList;
 use crate::SUPPORTED;
 use crate::Verdict;
 
-// The verdict on a page list beside its header, and the columns of the header, by which its pages can be read again.
-pub fn judge_page_list(
-    header: &[u8],
-    page_list: &[u8],
-    entries: u64,
-    file_length: u64,
-) -> JudgedList
-    ensures { λ r. ⌜ JudgedBy (now (header .entry)) (now («page_list» .entry)) entries «file_length» r ⌝ }
-{
-    let schema = header_schema::read_schema(header);
-    let verdict = schema.verdict;
-    match verdict {
-        HeaderVerdict::Accepted => {
-            let n = schema.fields;
-            let parents = schema.parents;
-            let flags = schema.flags;
-            let column_rows = schema.column_rows;
-            let columns = schema.columns;
-            let verdict = judge_envelope(
-                page_list,
-                &parents[..n],
-                &flags[..n],
-                &column_rows,
-                columns,
-                entries,
-                file_length,
-            );
-            JudgedList {
-                verdict,
-                columns,
-                column_rows,
-            }
-        }
-        HeaderVerdict::Refused(f) => {
-            let column_rows = schema.column_rows;
-            JudgedList {
-                verdict: Verdict::Refused(1, f.number),
-                columns: schema.columns,
-                column_rows,
-            }
-        }
-    }
-}
-
 // The verdict on an envelope beside a header: `parents` and `flags` have a word of each field, `rows` has a row of each of n columns.
-fn judge_envelope(
+pub fn judge(
     e: &[u8],
     parents: &[u16],
     flags: &[u64],
@@ -70,7 +23,7 @@ fn judge_envelope(
     entries: u64,
     file: u64,
 ) -> Verdict
-    ensures { λ r. ⌜ ((l : Lists) → SchemaOf l (now (parents .entry)) (now (flags .entry)) (now (rows .entry)) n → Judges file (bitsIn (now (rows .entry)) n) (now (e .entry)) (inEnvelope 3 (summed entries l (envelope 1 (payload file (bitsOf (l .columns))) (now (e .entry))))) r) ⌝ }
+    ensures { λ r. ⌜ Judges file (bitsIn (now (rows .entry)) n) (now (e .entry)) (summedBy entries (columnsIn (now (rows .entry)) n) (take mostFields (now (parents .entry))) (now (flags .entry)) (envelope 1 (payload file (bitsIn (now (rows .entry)) n)) (now (e .entry)))) r ⌝ }
 {
     match envelope::open_envelope(e, SUPPORTED) {
         OpenStep::Found(opening) => {
@@ -86,12 +39,12 @@ fn judge_envelope(
                             strict: opening.strict,
                             pages: count as usize,
                         }),
-                        Totals::Differ(_) => Verdict::Refused(3, 19),
+                        Totals::Differ(_) => Verdict::Refused(19),
                     }
                 }
-                NumberStep::Refused(f) => Verdict::Refused(3, f.number),
+                NumberStep::Refused(f) => Verdict::Refused(f.number),
             }
         }
-        OpenStep::Refused(f) => Verdict::Refused(3, f.number),
+        OpenStep::Refused(f) => Verdict::Refused(f.number),
     }
 }

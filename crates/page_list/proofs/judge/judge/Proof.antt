@@ -1,11 +1,11 @@
 use mathlib.Core.Path.{sym, ap, _∙_}
 use lib.Seq.{length-take-le}
 use Rattle.envelope.specs.Answers.{openStep}
-use Rattle.column_pages.specs.ColumnPages.{bitsOf}
+use Rattle.column_pages.specs.Answers.{bitsIn}
 use Rattle.page_list.proofs.JudgeLaws.{columns-inside, judged-refused, judged-wrong, judged-right, envelope-open, envelope-refused}
 use borrow.Author.Needs.{needs}
-use Rattle.page_list.proofs.judge.judge_envelope.Statement.{statement}
-use Rattle.page_list.proofs.judge.judge_envelope.Tie as tie
+use Rattle.page_list.proofs.judge.judge.Statement.{statement}
+use Rattle.page_list.proofs.judge.judge.Tie as tie
 
 open-envelope-requires : tie.Need-open-envelope-requires
 open-envelope-requires c κs = search needs
@@ -45,25 +45,25 @@ enum-known-f c = search needs
 
 returns : tie.Need-returns
 returns c = let a = c .before .before .before .before .before .before .before .before .before .before .before .before .before .before .before .before .before .before .args in
-    λ l o. rw (envelope-open (a .file) (bitsOf (l .columns)) (a .e .now) (sym (c .before .before .before .before .before .before .before .before .before .before .before .before .before .open-envelope .ensures) ∙ ap openStep (c .before .before .before .before .before .before .before .before .before .before .before .opening .given .1)), ← c .before .before .before .before .before .before .before .before .before .up-to .ensures)
-    (judged-right _ (a .file) _ (a .rows .now) (a .n) (c .before .before .before .before .before .before .before .before .scan-payload .ensures) (c .before .before .before .before .before .scanned .given .1) (a .entries) (a .parents .now) (a .flags .now) l o (c .before .before .totals-of .ensures) _ (a .e .now) (c .before .before .before .before .before .before .before .before .before .up-to .ensures) (c .enum-told .given .1))
+    rw (envelope-open (a .file) (bitsIn (a .rows .now) (a .n)) (a .e .now) (sym (c .before .before .before .before .before .before .before .before .before .before .before .before .before .open-envelope .ensures) ∙ ap openStep (c .before .before .before .before .before .before .before .before .before .before .before .opening .given .1)), ← c .before .before .before .before .before .before .before .before .before .up-to .ensures)
+    (judged-right _ (a .file) _ (a .rows .now) (a .n) (c .before .before .before .before .before .before .before .before .scan-payload .ensures) (c .before .before .before .before .before .scanned .given .1) (a .entries) (a .parents .now) (a .flags .now) (c .before .before .totals-of .ensures) _ (a .e .now) (c .before .before .before .before .before .before .before .before .before .up-to .ensures) (c .enum-told .given .1))
 
 returns-2 : tie.Need-returns-2
 returns-2 c = let a = c .before .before .before .before .before .before .before .before .before .before .before .before .before .before .before .before .before .before .args in
-    λ l o. rw (envelope-open (a .file) (bitsOf (l .columns)) (a .e .now) (sym (c .before .before .before .before .before .before .before .before .before .before .before .before .before .open-envelope .ensures) ∙ ap openStep (c .before .before .before .before .before .before .before .before .before .before .before .opening .given .1)), ← c .before .before .before .before .before .before .before .before .before .up-to .ensures)
-    (judged-wrong _ (a .file) _ (a .rows .now) (a .n) (c .before .before .before .before .before .before .before .before .scan-payload .ensures) (c .before .before .before .before .before .scanned .given .1) (a .entries) (a .parents .now) (a .flags .now) l o (c .before .before .totals-of .ensures) (a .e .now) (c .enum-told2 .given .1))
+    rw (envelope-open (a .file) (bitsIn (a .rows .now) (a .n)) (a .e .now) (sym (c .before .before .before .before .before .before .before .before .before .before .before .before .before .open-envelope .ensures) ∙ ap openStep (c .before .before .before .before .before .before .before .before .before .before .before .opening .given .1)), ← c .before .before .before .before .before .before .before .before .before .up-to .ensures)
+    (judged-wrong _ (a .file) _ (a .rows .now) (a .n) (c .before .before .before .before .before .before .before .before .scan-payload .ensures) (c .before .before .before .before .before .scanned .given .1) (a .entries) (a .parents .now) (a .flags .now) (c .before .before .totals-of .ensures) (a .e .now) (c .enum-told2 .given .1))
 
 returns-3 : tie.Need-returns-3
 returns-3 c = let a = c .before .before .before .before .before .before .before .before .before .before .before .before .before .before .args in
-    λ l o. rw (envelope-open (a .file) (bitsOf (l .columns)) (a .e .now) (sym (c .before .before .before .before .before .before .before .before .before .open-envelope .ensures) ∙ ap openStep (c .before .before .before .before .before .before .before .opening .given .1)), ← c .before .before .before .before .before .up-to .ensures)
-    (judged-refused _ (a .file) _ (a .parents .now) (a .flags .now) (a .rows .now) (a .n) l o (a .entries) (a .e .now) (c .before .before .before .before .scan-payload .ensures) (c .before .scanned2 .given .1))
+    rw (envelope-open (a .file) (bitsIn (a .rows .now) (a .n)) (a .e .now) (sym (c .before .before .before .before .before .before .before .before .before .open-envelope .ensures) ∙ ap openStep (c .before .before .before .before .before .before .before .opening .given .1)), ← c .before .before .before .before .before .up-to .ensures)
+    (judged-refused _ (a .file) _ (a .rows .now) (a .n) (a .entries) _ _ _ (a .e .now) (c .before .before .before .before .scan-payload .ensures) (c .before .scanned2 .given .1))
 
 returns-4 : tie.Need-returns-4
 returns-4 c = let a = c .before .before .before .before .before .before .before .before .args in
-    λ l o. envelope-refused (a .file) (bitsOf (l .columns)) (a .e .now) _ (a .entries) l (sym (c .before .before .before .open-envelope .ensures) ∙ ap openStep (c .before .f .given .1))
+    envelope-refused (a .file) _ (a .e .now) _ (a .entries) _ _ _ (sym (c .before .before .before .open-envelope .ensures) ∙ ap openStep (c .before .f .given .1))
 
-pub judge-envelope-spec : {M : Type 1} → statement M
-judge-envelope-spec =
+pub judge-spec : {M : Type 1} → statement M
+judge-spec =
     tie.close
     (tie.spec
     open-envelope-requires
