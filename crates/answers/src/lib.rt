@@ -1,4 +1,6 @@
 // Answers as one number, and as words in front of a lent result: all of them, or none where they have no room there.
+#![tactic(auto)]
+
 ghost use Rattle.std.specs.Prelude.{◌≡◌};
 ghost use Rattle.numbers.specs.Rows.{put};
 ghost use Rattle.outcome.specs.Outcome.{code_of};

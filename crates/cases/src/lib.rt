@@ -1,4 +1,6 @@
 // For programs that run cases, each from a file that an argument names: the words of a case, and what is printed of a call.
+#![tactic(auto)]
+
 ghost use Rattle.std.specs.Prelude.{◌≡◌, ℕ, ◌<◌, min, length, replicate, ◌==◌, slice_index};
 ghost use Rattle.io.specs.Counts.{IsPrefixLen};
 ghost use Rattle.cases.specs.Words.{word_at};

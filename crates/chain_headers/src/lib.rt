@@ -1,1 +1,2 @@
 // Headers whose fields are one chain: theorems only (specs/ and proofs/).
+#![tactic(auto)]

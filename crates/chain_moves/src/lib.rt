@@ -1,4 +1,6 @@
 // How far the fields are from their self-parented fields.
+#![tactic(auto)]
+
 ghost use Rattle.std.specs.Prelude.{◌≡◌, true, ◌+◌, ◌<◌, ◌≤◌, length, take};
 ghost use Rattle.rows.specs.Words.{most_fields};
 ghost use Rattle.parents.specs.Parents.{Inside, reaches, endless};
@@ -8,7 +10,7 @@ ghost use Rattle.chain_moves.specs.Followed.{Followed, Known};
 use rows::FieldNumber;
 
 // How many moves from a field its self-parented field is away, or that its chain never ends.
-#[derive(Drop)]
+#[derive(Clone, Copy)]
 pub enum Distance {
     Away(u16),
     Never,

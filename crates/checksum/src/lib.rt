@@ -1,4 +1,6 @@
 // The CRC-32 of an envelope and of a page.
+#![tactic(auto)]
+
 mod first;
 mod wide;
 

@@ -6,7 +6,7 @@ ghost use Rattle.numbers.specs.Numbers.{little};
 ghost use Rattle.checksum.specs.Wide.{finish};
 
 // Five words, each to be put on one of the next words of the bytes.
-#[derive(Drop)]
+#[derive(Clone, Copy)]
 pub struct Wide {
     pub a: u64,
     pub b: u64,

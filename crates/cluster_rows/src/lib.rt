@@ -1,4 +1,6 @@
 // The rows of the tables that say where the data is, read and written by number: clusters, links to page lists, pages.
+#![tactic(auto)]
+
 ghost use Rattle.std.specs.Prelude.{◌≡◌, ◌*◌};
 ghost use Rattle.numbers.specs.Rows.{put};
 ghost use Rattle.rows.specs.Words.{bit, cluster_width, link_width, page_width, link_words, cluster_words, page_words};

@@ -1,4 +1,6 @@
 // Decodes the column that the file of each argument has: prints its name, the answer, the result and the lent words as the call leaves them.
+#![tactic(auto)]
+
 use libc::STDOUT_FILENO;
 
 // A case is four numbers of eight bytes each, then the words of its pages, and then the part of a file that they lie in. The numbers, by

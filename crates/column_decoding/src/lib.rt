@@ -1,4 +1,6 @@
 // A column in one call: its pages are decoded in turn.
+#![tactic(auto)]
+
 ghost use Rattle.std.specs.Prelude.{◌≡◌, ℕ, length};
 ghost use Rattle.column_type.specs.Types.{width_of, Marked};
 ghost use Rattle.page_rules.specs.Page.{outcome_of as singleOutcome};

@@ -1,4 +1,6 @@
 // The pages of all columns: a list with an item for each column, which is the list of its pages.
+#![tactic(auto)]
+
 ghost use Rattle.std.specs.Prelude.{◌≡◌, ◌≤◌};
 ghost use Rattle.wire.specs.Reading.{refused};
 ghost use Rattle.rows.specs.Words.{most_columns};
@@ -15,7 +17,7 @@ use wire::{Fault, NumberStep, PlaceStep};
 
 // How many pages all columns have, and the place after them, or a refusal; and how many elements the pages of each column
 // have, zeros where they are refused.
-#[derive(Drop)]
+#[derive(Clone, Copy)]
 pub struct Sums {
     pub pages: NumberStep,
     pub elements: [u64; rows::MOST_COLUMNS],

@@ -1,4 +1,6 @@
 // The records of a header's columns and aliases, each in its frame.
+#![tactic(auto)]
+
 mod alias;
 mod column;
 
@@ -15,14 +17,14 @@ use rows::{AliasRow, ColumnRow};
 use wire::{Fault, PlaceStep};
 
 // A column and the place after it, or a refusal.
-#[derive(Drop)]
+#[derive(Clone, Copy)]
 pub enum ColumnStep {
     Found(ColumnRow, usize),
     Refused(Fault),
 }
 
 // An alias and the place after it, or a refusal.
-#[derive(Drop)]
+#[derive(Clone, Copy)]
 pub enum AliasStep {
     Found(AliasRow, usize),
     Refused(Fault),

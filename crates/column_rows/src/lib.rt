@@ -1,4 +1,6 @@
 // The rows of a header's columns and aliases, read and written by number.
+#![tactic(auto)]
+
 ghost use Rattle.std.specs.Prelude.{◌≡◌, ◌*◌};
 ghost use Rattle.numbers.specs.Rows.{put};
 ghost use Rattle.rows.specs.Words.{column_width, alias_width, column_words, alias_words};

@@ -1,6 +1,7 @@
 // What decoding a column's pages in one call answers. Its rule is in specs/.
+#![tactic(auto)]
 
-#[derive(Drop)]
+#[derive(Clone, Copy)]
 pub enum ColumnAnswer {
     // How many pages were decoded: all of them.
     Decoded(usize),
@@ -10,7 +11,7 @@ pub enum ColumnAnswer {
 
 // A page of a column, in a lent part of a file: where its bytes start, how many they are without those of a checksum, its elements, and
 // whether a checksum follows.
-#[derive(Drop)]
+#[derive(Clone, Copy)]
 pub struct ColumnPage {
     pub offset: u64,
     pub size: u64,

@@ -1,4 +1,6 @@
 // The register of the CRC-32, taken on by a byte and by a word of eight bytes.
+#![tactic(auto)]
+
 ghost use Rattle.std.specs.Prelude.{◌≡◌};
 ghost use Rattle.crc_register.specs.Register.{shifted, bits, byte};
 

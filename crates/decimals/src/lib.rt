@@ -1,10 +1,12 @@
 // A number in decimal digits.
+#![tactic(auto)]
+
 ghost use Rattle.std.specs.Prelude.{◌≡◌, take};
 ghost use Rattle.io.specs.Counts.{IsPrefixLen};
 ghost use Rattle.decimals.specs.Decimal.{decimal};
 
 // The first `len` bytes are the digits, in ASCII.
-#[derive(Drop)]
+#[derive(Clone, Copy)]
 pub struct Digits {
     pub bytes: [u8; 20],
     pub len: usize,

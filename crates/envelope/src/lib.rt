@@ -1,5 +1,7 @@
 // The envelope around every payload: its checks before the payload, and the feature words that a header's and a footer's payload
 // start with.
+#![tactic(auto)]
+
 mod features;
 
 ghost use Rattle.std.specs.Prelude.{◌≡◌};
@@ -10,14 +12,14 @@ pub use features::features_at;
 use wire::{Fault, Kind};
 
 // An envelope that is opened: its version, whether its spare bytes are refused, and where its payload ends.
-#[derive(Drop)]
+#[derive(Clone, Copy)]
 pub struct Opening {
     pub version: u64,
     pub strict: bool,
     pub stop: usize,
 }
 
-#[derive(Drop)]
+#[derive(Clone, Copy)]
 pub enum OpenStep {
     Found(Opening),
     Refused(Fault),

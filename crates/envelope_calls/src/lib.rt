@@ -1,4 +1,6 @@
 // The calls on envelopes, with numbers and lent slices alone: what each answers is one number and the words of a lent result.
+#![tactic(auto)]
+
 ghost use Rattle.header.specs.Tables.{header_of};
 ghost use Rattle.footer.specs.Tables.{footer_beside};
 ghost use Rattle.page_list.specs.Tables.{page_list_beside};

@@ -1,4 +1,6 @@
 // Runs the case that each file named by an argument holds: prints its name, the answer, and the lent memory as the call leaves it.
+#![tactic(auto)]
+
 mod calls;
 
 use libc::STDOUT_FILENO;

@@ -1,4 +1,6 @@
 // The calls of the library under C names: include/rntuple_check.h declares them. A slice is passed as a pointer and a length.
+#![tactic(auto)]
+
 ghost use Rattle.std.specs.Prelude.{◌≡◌, length};
 ghost use Rattle.checksum.specs.Crc.{crc32};
 ghost use Rattle.header.specs.Tables.{header_of};

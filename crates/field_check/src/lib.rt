@@ -1,4 +1,6 @@
 // The fields of a header that is to be written: how long their records are, and their first refusal.
+#![tactic(auto)]
+
 mod long;
 mod number;
 

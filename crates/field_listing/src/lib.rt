@@ -1,4 +1,6 @@
 // A header's fields as a tree that people can read.
+#![tactic(auto)]
+
 ghost use Rattle.std.specs.Prelude.{◌≡◌, length};
 ghost use Rattle.numbers.specs.Rows.{flat};
 ghost use Rattle.rows.specs.Tables.{field_row};

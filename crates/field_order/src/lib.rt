@@ -1,4 +1,6 @@
 // The order in which the fields of a header are listed: each with its level, in a table of entries.
+#![tactic(auto)]
+
 mod links;
 mod walk;
 

@@ -12,20 +12,20 @@ use rows::{FieldHead, FieldNumber, FieldRow, FieldTexts, Text};
 use text::TextStep;
 use wire::{Fault, NumberStep};
 
-#[derive(Drop)]
+#[derive(Clone, Copy)]
 pub enum FieldHeadStep {
     Found(FieldHead, usize),
     Refused(Fault),
 }
 
-#[derive(Drop)]
+#[derive(Clone, Copy)]
 pub enum FieldTextsStep {
     Found(FieldTexts, usize),
     Refused(Fault),
 }
 
 // A string that was read, and the place after it.
-#[derive(Drop)]
+#[derive(Clone, Copy)]
 struct ReadText {
     text: Text,
     next: usize,

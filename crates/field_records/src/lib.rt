@@ -1,4 +1,6 @@
 // The records of a header's fields, each in its frame; and what stands before the header's lists.
+#![tactic(auto)]
+
 mod field;
 
 ghost use Rattle.std.specs.Prelude.{◌≡◌};
@@ -14,14 +16,14 @@ use text::TextStep;
 use wire::{Fault, PlaceStep};
 
 // A field and the place after it, or a refusal.
-#[derive(Drop)]
+#[derive(Clone, Copy)]
 pub enum FieldStep {
     Found(FieldRow, usize),
     Refused(Fault),
 }
 
 // The header's texts and the place after them, or a refusal.
-#[derive(Drop)]
+#[derive(Clone, Copy)]
 pub enum TextsStep {
     Found(HeaderTexts, usize),
     Refused(Fault),

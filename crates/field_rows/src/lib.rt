@@ -1,4 +1,6 @@
 // The rows of a header's fields, read and written by number.
+#![tactic(auto)]
+
 ghost use Rattle.std.specs.Prelude.{◌≡◌, ◌+◌, ◌*◌, ◌<◌};
 ghost use Rattle.numbers.specs.Rows.{put};
 ghost use Rattle.rows.specs.Words.{field_width, field_words, text_of, head_of, texts_of};

@@ -1,4 +1,6 @@
 // The calls for monthly figures, with numbers and lent slices alone: what each answers is one number and the words of a lent result.
+#![tactic(auto)]
+
 ghost use Rattle.std.specs.Prelude.{◌≡◌};
 ghost use Rattle.outcome.specs.Outcome.{code_of};
 ghost use Rattle.numbers.specs.Rows.{put};

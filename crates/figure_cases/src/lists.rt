@@ -23,7 +23,7 @@ const TURNS: u64 = 1;
 const HEADER: u64 = 2;
 
 // How many lists were accepted and refused.
-#[derive(Drop)]
+#[derive(Clone, Copy)]
 struct Lists {
     accepted: u64,
     refused: u64,

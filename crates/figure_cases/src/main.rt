@@ -1,5 +1,7 @@
 // Runs the case that the file of each argument has: page lists that are reported in turn, or a Bit page whose true elements are counted. Prints its
 // name and, of each call, the answer, the result and the report as the call leaves them.
+#![tactic(auto)]
+
 mod lists;
 
 use libc::STDOUT_FILENO;

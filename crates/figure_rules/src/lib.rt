@@ -1,14 +1,15 @@
 // What a report over page lists answers. Its rule is in specs/.
+#![tactic(auto)]
 
 // How many lists of a report were accepted, and how many their reader has refused.
-#[derive(Drop)]
+#[derive(Clone, Copy)]
 pub struct ListCounts {
     pub accepted: u64,
     pub refused: u64,
 }
 
 // The counts are those after the call.
-#[derive(Drop)]
+#[derive(Clone, Copy)]
 pub enum ReportAnswer {
     // The figures of the list are in the report.
     Added(ListCounts),

@@ -1,4 +1,6 @@
 // The texts of a table of figures, and the numbers that are handed in for it.
+#![tactic(auto)]
+
 mod cells;
 mod numerals;
 
@@ -11,7 +13,7 @@ ghost use Rattle.figure_table.specs.Table.{row_text};
 pub use numerals::{Numeral, number_of};
 
 // A row: a column's number and type, its figures, and the number of its field.
-#[derive(Drop)]
+#[derive(Clone, Copy)]
 pub struct FigureRow {
     pub column: u64,
     pub column_type: u64,

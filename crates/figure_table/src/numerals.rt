@@ -3,7 +3,7 @@ ghost use Rattle.std.specs.Prelude.{◌≡◌};
 ghost use Rattle.figure_table.specs.Numeral.{numeral, with_digit};
 ghost use Rattle.figure_table.specs.declared.numerals.Numeral.TheVariants.{Number as NumberIs};
 
-#[derive(Drop)]
+#[derive(Clone, Copy)]
 pub enum Numeral {
     Number(u64),
     // No digits, something else among them, or more than 64 bits hold.

@@ -1,5 +1,7 @@
 // Prints the figures of each column over page lists that belong to one header. The arguments are the name of the header's file, and for each list the
 // name of its file, the entries of its cluster, and the length of the file that its pages are in.
+#![tactic(auto)]
+
 mod input;
 mod lists;
 mod table;

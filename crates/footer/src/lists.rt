@@ -12,7 +12,7 @@ use crate::opening::opening_at;
 use wire::{Fault, NumberStep, PlaceStep};
 
 // Where a footer's lists stand, and how many items each has.
-#[derive(Drop)]
+#[derive(Clone, Copy)]
 pub struct FooterScan {
     pub clusters_at: usize,
     pub clusters: usize,
@@ -20,7 +20,7 @@ pub struct FooterScan {
     pub metadata: usize,
 }
 
-#[derive(Drop)]
+#[derive(Clone, Copy)]
 pub enum ScanStep {
     Found(FooterScan),
     Refused(Fault),

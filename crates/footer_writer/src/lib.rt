@@ -1,6 +1,8 @@
 // Writes a footer from its tables.
+#![tactic(auto)]
+
 mod lists;
-mod records;
+mod stored_records;
 mod write;
 
 ghost use Rattle.header.specs.Beside.{read};

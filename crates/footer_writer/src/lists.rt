@@ -7,7 +7,7 @@ ghost use Rattle.writing.specs.Piece.{pieces};
 ghost use Rattle.writing.specs.Rows.{all_rows};
 ghost use Rattle.writing.specs.Footer.{cluster_item, link_item, cluster_list_piece, link_list_piece};
 
-use crate::records::{write_cluster, write_link};
+use crate::stored_records::{write_cluster, write_link};
 
 // The records of the clusters.
 fn write_clusters(clusters: &[u64], carried: bool, at: usize, out: &mut [u8]) -> usize

@@ -1,4 +1,6 @@
 // Prints, for each file that an argument names, its name and what is printed for a header with its bytes.
+#![tactic(auto)]
+
 use libc::STDOUT_FILENO;
 
 // The file that argument number `i` names.

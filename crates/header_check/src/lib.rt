@@ -1,4 +1,6 @@
 // A header that is to be written: how long it would be, and the number of its first refusal.
+#![tactic(auto)]
+
 mod aliases;
 mod chains;
 mod columns;

@@ -1,5 +1,7 @@
 // The three lists of a payload: the verdict on each, and its rows in tables that are lent. Each is told what was read before it, and
 // hands a refusal on.
+#![tactic(auto)]
+
 ghost use Rattle.std.specs.Prelude.{◌≡◌, ◌≤◌, length, take};
 ghost use Rattle.rows.specs.Words.{most_fields};
 ghost use Rattle.wire.specs.Reading.{counted};

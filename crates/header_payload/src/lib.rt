@@ -1,4 +1,6 @@
 // The payload of a header, read once: the verdict on it, and the rows of its lists in tables of the caller's.
+#![tactic(auto)]
+
 ghost use Rattle.std.specs.Prelude.{◌≡◌, length, replicate};
 ghost use Rattle.rows.specs.Words.{most_fields};
 ghost use Rattle.wire.specs.Reading.{mapped};
@@ -15,7 +17,7 @@ use records::HeaderTexts;
 use wire::{Fault, NumberStep, PlaceStep};
 
 // Where the list of fields stands, and how many items each list has.
-#[derive(Drop)]
+#[derive(Clone, Copy)]
 pub struct HeaderLists {
     pub fields_at: usize,
     pub fields: usize,
@@ -23,13 +25,13 @@ pub struct HeaderLists {
     pub aliases: usize,
 }
 
-#[derive(Drop)]
+#[derive(Clone, Copy)]
 pub struct HeaderScan {
     pub texts: HeaderTexts,
     pub lists: HeaderLists,
 }
 
-#[derive(Drop)]
+#[derive(Clone, Copy)]
 pub enum ScanStep {
     Found(HeaderScan, usize),
     Refused(Fault),

@@ -1,4 +1,6 @@
 // The reading of a header into lent tables.
+#![tactic(auto)]
+
 mod fill;
 
 ghost use Rattle.header.specs.Tables.{header_of, Answered};

@@ -1,4 +1,6 @@
 // A header's envelope, read once: the verdict on it, and the rows of its lists in tables of the caller's.
+#![tactic(auto)]
+
 mod chain;
 
 ghost use Rattle.std.specs.Prelude.{◌≡◌};

@@ -1,4 +1,6 @@
 // What the readers of the other envelopes take from a header.
+#![tactic(auto)]
+
 ghost use Rattle.std.specs.Prelude.{◌≡◌};
 ghost use Rattle.envelope.specs.Envelope.{checksum_of};
 ghost use Rattle.header.specs.Tables.{header_of};
@@ -7,7 +9,7 @@ ghost use Rattle.header_schema.specs.Schema.{schema_of};
 use header_payload::ScanStep;
 use wire::Fault;
 
-#[derive(Drop)]
+#[derive(Clone, Copy)]
 pub enum HeaderVerdict {
     Accepted,
     Refused(Fault),
@@ -15,7 +17,7 @@ pub enum HeaderVerdict {
 
 // The checksum of a header, how many fields and columns it has, the parent and
 // the flags of each field, and the row of each column (type, bits, field, flags). All zero where it is refused.
-#[derive(Drop)]
+#[derive(Clone, Copy)]
 pub struct Schema {
     pub verdict: HeaderVerdict,
     pub checksum: u64,

@@ -1,4 +1,6 @@
 // The parts of a header, stored into lent bytes from a place on; each call answers the place after what it stored.
+#![tactic(auto)]
+
 mod list;
 mod row;
 

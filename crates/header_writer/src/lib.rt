@@ -1,4 +1,6 @@
 // Writes a header from its tables.
+#![tactic(auto)]
+
 mod write;
 
 ghost use Rattle.writing.specs.Answers.{Answered, header_to_write};

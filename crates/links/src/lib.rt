@@ -1,4 +1,6 @@
 // Links into an archive, and the list of metadata links.
+#![tactic(auto)]
+
 ghost use Rattle.std.specs.Prelude.{◌≡◌};
 ghost use Rattle.wire.specs.Reading.{counted};
 ghost use Rattle.wire.specs.Answers.{number_step};
@@ -11,7 +13,7 @@ use rows::Link;
 use wire::{Fault, NumberStep};
 
 // A link and the place after it, or a refusal.
-#[derive(Drop)]
+#[derive(Clone, Copy)]
 pub enum LinkStep {
     Found(Link, usize),
     Refused(Fault),

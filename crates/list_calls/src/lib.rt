@@ -1,5 +1,7 @@
 // The call that lists a header's fields, with lent slices alone: what it answers is one number, and how many bytes were written in a lent
 // result.
+#![tactic(auto)]
+
 ghost use Rattle.std.specs.Prelude.{◌≡◌};
 ghost use Rattle.numbers.specs.Rows.{put};
 ghost use Rattle.outcome.specs.Outcome.{code_of};

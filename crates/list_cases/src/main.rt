@@ -1,4 +1,6 @@
 // Lists the header that the file of each argument has: prints its name, the answer, the result and the lent bytes as the call leaves them.
+#![tactic(auto)]
+
 use libc::STDOUT_FILENO;
 
 // A case is three numbers of eight bytes each and then the header. The numbers, by their places: how many bytes are lent, how many words of

@@ -1,4 +1,6 @@
 // Lists: the head of a list's frame, the verdict on its count, and its end.
+#![tactic(auto)]
+
 ghost use Rattle.std.specs.Prelude.{◌≡◌};
 ghost use Rattle.wire.specs.Reading.{found, in_item};
 ghost use Rattle.frames.specs.Frames.{list_stop, list_count, count_judged, list_head, at_most, closed_by};

@@ -1,4 +1,6 @@
 // Reads a header of at most 65,536 bytes from standard input, and prints its fields as a tree, or the line that tells why there is none.
+#![tactic(auto)]
+
 use libc::{STDIN_FILENO, STDOUT_FILENO};
 
 fn main() {

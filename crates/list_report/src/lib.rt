@@ -1,4 +1,6 @@
 // What the program prints for a header that it lists.
+#![tactic(auto)]
+
 ghost use Rattle.std.specs.Prelude.{take};
 ghost use Rattle.io.specs.Counts.{IsPrefixLen};
 ghost use Rattle.list_report.specs.Printed.{printed, Prints};

@@ -1,6 +1,7 @@
 // What the listing of a header's fields answers. Its lines and their order are in specs/.
+#![tactic(auto)]
 
-#[derive(Drop)]
+#[derive(Clone, Copy)]
 pub enum ListAnswer {
     // How many bytes were written.
     Listed(usize),

@@ -1,4 +1,6 @@
 // The lines of a listing, written into lent bytes.
+#![tactic(auto)]
+
 mod line;
 mod room;
 mod store;

@@ -7,7 +7,7 @@ ghost use Rattle.listing_lines.specs.Line.{line_of};
 use listing::ENTRY_WORDS;
 use rows::{FieldNumber, Text};
 
-#[derive(Drop)]
+#[derive(Clone, Copy)]
 pub struct Line {
     pub level: u64,
     pub field: u64,

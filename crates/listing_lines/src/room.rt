@@ -8,7 +8,7 @@ use crate::line::{Line, line_of};
 use listing::ENTRY_WORDS;
 
 // How many bytes are left.
-#[derive(Drop)]
+#[derive(Clone, Copy)]
 pub enum Room {
     Left(usize),
     Full,

@@ -1,4 +1,6 @@
 // Locators: a stored size and an offset in the file.
+#![tactic(auto)]
+
 ghost use Rattle.std.specs.Prelude.{◌≡◌, ◌+◌, ◌^◌, ◌<◌};
 ghost use Rattle.numbers.specs.Numbers.{trailer};
 ghost use Rattle.wire.specs.Reading.{tested};
@@ -9,14 +11,14 @@ ghost use Rattle.locator.specs.Answers.{range_step};
 use wire::{Fault, NumberStep};
 
 // A range of the file, as a locator has it.
-#[derive(Drop)]
+#[derive(Clone, Copy)]
 pub struct Range {
     pub size: u64,
     pub offset: u64,
 }
 
 // A range and the place after its locator, or a refusal.
-#[derive(Drop)]
+#[derive(Clone, Copy)]
 pub enum RangeStep {
     Found(Range, usize),
     Refused(Fault),

@@ -1,10 +1,12 @@
 // How far the fields of a header are from the self-parented tops of their chains, all together.
+#![tactic(auto)]
+
 ghost use Rattle.header.specs.Tables.{header_of};
 ghost use Rattle.moves.specs.Moves.{Answered};
 
 use header_payload::ScanStep;
 
-#[derive(Drop)]
+#[derive(Clone, Copy)]
 pub enum MovesAnswer {
     // The sum over all fields of the moves from the field to its self-parented top.
     Moves(u64),

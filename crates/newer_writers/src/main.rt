@@ -3,6 +3,8 @@
 // readers must leave the same tables, but for the checksums that a footer of version 1 gets where it is raised; a table of which one word was
 // changed must be told apart, and the same byte must be refused where the version is the minimum. A page list is also read for a row that
 // has its checksum, which is put right too; before that it must be refused 26. Of a header the moves to the top must be as many, too.
+#![tactic(auto)]
+
 mod case;
 mod compare;
 

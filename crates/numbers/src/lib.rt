@@ -1,4 +1,6 @@
 // Little-endian numbers of two, four and eight bytes, and the bytes of a page's checksum.
+#![tactic(auto)]
+
 ghost use Rattle.std.specs.Prelude.{◌≡◌, ℕ, ◌+◌, ◌≤◌, ◌<◌, length};
 ghost use Rattle.numbers.specs.Numbers.{little, Little, Room, trailer};
 

@@ -1,5 +1,7 @@
 // The calls on pages, with numbers and lent slices alone: what each answers is one number and, where a page is encoded or a column decoded, a word
 // of a lent result.
+#![tactic(auto)]
+
 ghost use Rattle.std.specs.Prelude.{◌≡◌, length};
 ghost use Rattle.outcome.specs.Outcome.{code_of};
 ghost use Rattle.numbers.specs.Rows.{put};

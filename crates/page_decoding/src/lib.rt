@@ -1,4 +1,6 @@
 // Pages decoded: the elements of a column from bytes.
+#![tactic(auto)]
+
 mod bit;
 mod difference;
 mod read;

@@ -1,4 +1,6 @@
 // Pages encoded: the elements of a column to bytes.
+#![tactic(auto)]
+
 mod bit;
 mod number;
 mod write;

@@ -1,4 +1,6 @@
 // The figures of one page list: how many pages each column has, their elements, their stored sizes, and how many have a checksum.
+#![tactic(auto)]
+
 mod sums;
 
 ghost use Rattle.std.specs.Prelude.{◌≡◌, true};
@@ -12,7 +14,7 @@ ghost use Rattle.page_figures.specs.Answers.{Answered};
 use header_schema::HeaderVerdict;
 use page_list::{Judged, Verdict};
 
-#[derive(Drop)]
+#[derive(Clone, Copy)]
 pub enum FiguresAnswer {
     // How many columns there are, one row of figures to each.
     Summed { columns: usize },
@@ -21,7 +23,7 @@ pub enum FiguresAnswer {
 }
 
 // The figures of a column's pages.
-#[derive(Drop)]
+#[derive(Clone, Copy)]
 pub struct Figures {
     pub pages: u64,
     pub elements: u64,

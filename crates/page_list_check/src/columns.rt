@@ -12,7 +12,7 @@ use rows::ColumnNumber;
 
 // The first refusal of the pages of each column; where there is none, whether each row was met in the order of the columns, and how many
 // elements each column has.
-#[derive(Drop)]
+#[derive(Clone, Copy)]
 pub struct ColumnSums {
     pub number: u16,
     pub ordered: bool,

@@ -1,4 +1,6 @@
 // The verdict on a page list that is to be written: how long it would be, and the number of its first refusal.
+#![tactic(auto)]
+
 mod columns;
 mod page;
 

@@ -10,7 +10,7 @@ ghost use Rattle.page_list_check.specs.Checks.{Summed};
 use writing::PageWords;
 
 // The first refusal of the pages of a column, and how many elements they have where there is none.
-#[derive(Drop)]
+#[derive(Clone, Copy)]
 pub struct ColumnSum {
     pub number: u16,
     pub elements: u64,

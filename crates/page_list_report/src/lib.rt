@@ -1,4 +1,6 @@
 // A report over page lists: the figures of one list more.
+#![tactic(auto)]
+
 mod sums;
 
 ghost use Rattle.std.specs.Prelude.{◌≡◌, ◌+◌, ◌*◌, ◌<◌, ltb, length};

@@ -1,4 +1,6 @@
 // Writes a page list from its table.
+#![tactic(auto)]
+
 mod write;
 
 ghost use Rattle.header.specs.Header.{Header};

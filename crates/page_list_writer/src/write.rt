@@ -11,7 +11,7 @@ use rows::ColumnNumber;
 use writing::PageWords;
 
 // How many pages of a column were stored, and the place after them.
-#[derive(Drop)]
+#[derive(Clone, Copy)]
 struct RunWritten {
     count: usize,
     next: usize,

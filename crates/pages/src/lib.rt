@@ -1,4 +1,6 @@
 // Pages, and the list of the pages of one column.
+#![tactic(auto)]
+
 ghost use Rattle.std.specs.Prelude.{◌≡◌, ◌≤◌};
 ghost use Rattle.wire.specs.Reading.{mapped, in_item, tested};
 ghost use Rattle.frames.specs.Frames.{closed_by, list_head};
@@ -15,20 +17,20 @@ use rows::{ColumnNumber, PageRow};
 use wire::{Fault, NumberStep, PlaceStep};
 
 // A page and the place after it, or a refusal.
-#[derive(Drop)]
+#[derive(Clone, Copy)]
 pub enum PageStep {
     Found(PageRow, usize),
     Refused(Fault),
 }
 
 // How many pages a column has, and how many elements they have in all.
-#[derive(Drop)]
+#[derive(Clone, Copy)]
 pub struct Tally {
     pub pages: usize,
     pub elements: u64,
 }
 
-#[derive(Drop)]
+#[derive(Clone, Copy)]
 pub enum TallyStep {
     Found(Tally, usize),
     Refused(Fault),

@@ -1,4 +1,6 @@
 // The page list of a cluster's row: read only where its checksum is the row's, or the row has none.
+#![tactic(auto)]
+
 ghost use Rattle.std.specs.Prelude.{ℕ, List, ◌≡◌};
 ghost use Rattle.envelope.specs.Envelope.{opened};
 ghost use Rattle.page_list.specs.Tables.{Answered};

@@ -1,5 +1,7 @@
 // Parent chains: whether every one ends, and which fields are dark. Arrays of parents and of marks have a place for each field; a
 // place in them comes from a field's number and never from a column's.
+#![tactic(auto)]
+
 mod dark;
 pub mod inside;
 mod walk;
@@ -12,7 +14,7 @@ ghost use Rattle.parents.specs.Dark.{dark_mark};
 use rows::FieldNumber;
 
 // Whether every parent chain ends at a self-parented field; if not, the lowest field whose chain never does.
-#[derive(Drop)]
+#[derive(Clone, Copy)]
 pub enum Chains {
     AllEnd,
     Endless(FieldNumber),

@@ -1,4 +1,6 @@
 // Planes of a split page, placed into lent words.
+#![tactic(auto)]
+
 mod join;
 mod pass;
 

@@ -1,9 +1,11 @@
 // A thin reader: an envelope that is lent, and a place in it. Its functions take it apart and call covered functions with the slice
 // and the number. `read_text` has plain parameters: who calls it needs no walk.
+#![tactic(auto)]
+
 ghost use Rattle.std.specs.Prelude.{◌≡◌};
 ghost use Rattle.reader.specs.Text.{text_of};
 
-#[derive(Drop)]
+#[derive(Clone, Copy)]
 pub struct Reader<'a> {
     pub src: &'a [u8],
     pub at: usize,

@@ -1,5 +1,7 @@
 // Writes the name of a header, and its description, which is empty. The functions here call `reader::read_text`, whose parameters are
 // plain, so none of them needs a walk.
+#![tactic(auto)]
+
 ghost use Rattle.std.specs.Prelude.{◌≡◌};
 ghost use Rattle.text.specs.Strings.{string};
 ghost use Rattle.reader_main.specs.Characters.{characters_of};

@@ -6,7 +6,7 @@ ghost use Rattle.wire.specs.Answers.{number_step};
 use wire::NumberStep;
 
 // A number that was read, and the place after it.
-#[derive(Drop)]
+#[derive(Clone, Copy)]
 pub struct Read {
     pub value: u64,
     pub next: usize,

@@ -1,1 +1,2 @@
 // Which refusals each reader can give: theorems only (specs/ and proofs/).
+#![tactic(auto)]

@@ -1,4 +1,6 @@
 // What the program prints for a header, as a line of bytes.
+#![tactic(auto)]
+
 ghost use Rattle.std.specs.Prelude.{◌≡◌, [], ◌≤◌, length};
 ghost use Rattle.io.specs.Counts.{IsPrefixLen};
 ghost use Rattle.decimals.specs.Decimal.{decimal};
@@ -11,7 +13,7 @@ use header::HeaderAnswer;
 pub const MOST_BYTES: usize = 65536;
 
 // The first `len` bytes are the line, its end included.
-#[derive(Drop)]
+#[derive(Clone, Copy)]
 pub struct Line {
     pub bytes: [u8; 128],
     pub len: usize,

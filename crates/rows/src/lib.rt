@@ -1,13 +1,15 @@
 // The rows of the lent tables: what each row has, and the words of a table by row.
+#![tactic(auto)]
+
 ghost use Rattle.std.specs.Prelude.{◌≡◌, get_or};
 ghost use Rattle.numbers.specs.Rows.{put};
 ghost use Rattle.rows.specs.Tables.{row_words};
 
 // Field numbers and column numbers are two kinds, so that neither can be taken for the other.
-#[derive(Drop)]
+#[derive(Clone, Copy)]
 pub struct FieldNumber(pub u64);
 
-#[derive(Drop)]
+#[derive(Clone, Copy)]
 pub struct ColumnNumber(pub u64);
 
 // The most items that a list may have.
@@ -47,14 +49,14 @@ pub const FULL_COLUMNS: usize = COLUMN_WORDS * MOST_COLUMNS;
 pub const FULL_ALIASES: usize = ALIAS_WORDS * MOST_ALIASES;
 
 // A string: where its bytes stand in the envelope, and how many they are.
-#[derive(Drop)]
+#[derive(Clone, Copy)]
 pub struct Text {
     pub place: usize,
     pub len: usize,
 }
 
 // What a field's record has before its strings.
-#[derive(Drop)]
+#[derive(Clone, Copy)]
 pub struct FieldHead {
     pub field_version: u64,
     pub type_version: u64,
@@ -64,7 +66,7 @@ pub struct FieldHead {
     pub repetition: u64,
 }
 
-#[derive(Drop)]
+#[derive(Clone, Copy)]
 pub struct FieldTexts {
     pub name: Text,
     pub type_name: Text,
@@ -72,13 +74,13 @@ pub struct FieldTexts {
     pub description: Text,
 }
 
-#[derive(Drop)]
+#[derive(Clone, Copy)]
 pub struct FieldRow {
     pub head: FieldHead,
     pub texts: FieldTexts,
 }
 
-#[derive(Drop)]
+#[derive(Clone, Copy)]
 pub struct ColumnRow {
     pub column_type: u64,
     pub bits: u64,
@@ -86,19 +88,19 @@ pub struct ColumnRow {
     pub flags: u64,
 }
 
-#[derive(Drop)]
+#[derive(Clone, Copy)]
 pub struct AliasRow {
     pub column: ColumnNumber,
     pub field: FieldNumber,
 }
 
-#[derive(Drop)]
+#[derive(Clone, Copy)]
 pub struct Link {
     pub size: u64,
     pub offset: u64,
 }
 
-#[derive(Drop)]
+#[derive(Clone, Copy)]
 pub struct ClusterRow {
     pub first_entry: u64,
     pub entries: u64,
@@ -107,7 +109,7 @@ pub struct ClusterRow {
     pub checksum: u64,
 }
 
-#[derive(Drop)]
+#[derive(Clone, Copy)]
 pub struct PageRow {
     pub column: ColumnNumber,
     pub elements: u64,

@@ -1,5 +1,7 @@
 // Whether two calls of a reader left the same tables: both accept, the counts are the same, and so are the rows, strings by their
 // characters, wherever these stand.
+#![tactic(auto)]
+
 mod fields;
 mod words;
 

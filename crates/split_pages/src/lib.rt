@@ -1,4 +1,6 @@
 // Split pages written: delta or zigzag on the elements, then their bytes plane by plane.
+#![tactic(auto)]
+
 mod difference;
 mod number;
 mod signed;

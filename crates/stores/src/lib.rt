@@ -1,5 +1,7 @@
 // Numbers and bytes stored into lent bytes from a place on. Each call tests once whether there is room, and answers the place after what it
 // stored; where there is no room it stores less, or nothing, and its answer says nothing.
+#![tactic(auto)]
+
 ghost use Rattle.std.specs.Prelude.{◌≡◌, ◌++◌, ◌+◌, ◌-◌, ◌^◌, ◌≤◌, length, take};
 ghost use Rattle.std.proofs.lemmas.List.Edits.{sets};
 ghost use Rattle.checksum.specs.Crc.{crc32};

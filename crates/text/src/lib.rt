@@ -1,4 +1,6 @@
 // Strings: a length of four bytes, and so many bytes of characters.
+#![tactic(auto)]
+
 ghost use Rattle.std.specs.Prelude.{◌≡◌};
 ghost use Rattle.utf8.specs.WellFormed.{well_formed};
 ghost use Rattle.text.specs.Strings.{string};
@@ -8,7 +10,7 @@ use rows::Text;
 use wire::{Fault, Kind};
 
 // A string and the place after it, or a refusal.
-#[derive(Drop)]
+#[derive(Clone, Copy)]
 pub enum TextStep {
     Found(Text, usize),
     Refused(Fault),

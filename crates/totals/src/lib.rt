@@ -1,4 +1,6 @@
 // The totals of a cluster: the elements of each top-level field's first column against the cluster's entries.
+#![tactic(auto)]
+
 ghost use Rattle.std.specs.Prelude.{◌≡◌, true, ℕ, ◌<◌, eqb, get_or, take};
 ghost use Rattle.numbers.specs.Choice.{pick};
 ghost use Rattle.rows.specs.Words.{bit, most_fields};
@@ -8,7 +10,7 @@ ghost use Rattle.totals.specs.Totals.{agrees, total_of, counts, totals};
 use rows::{ColumnNumber, FieldNumber};
 
 // Whether the totals of every field agree; if not, the lowest field whose totals do not.
-#[derive(Drop)]
+#[derive(Clone, Copy)]
 pub enum Totals {
     Agree,
     Differ(FieldNumber),

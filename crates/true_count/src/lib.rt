@@ -1,4 +1,6 @@
 // How many elements of a Bit page are true.
+#![tactic(auto)]
+
 mod ones;
 
 ghost use Rattle.std.specs.Prelude.{◌≡◌};
@@ -7,7 +9,7 @@ ghost use Rattle.true_count.specs.True.{outcome_of, count_outcome};
 use page_rules::PageAnswer;
 use page_rules::answer::decode_answer;
 
-#[derive(Drop)]
+#[derive(Clone, Copy)]
 pub enum CountAnswer {
     // How many elements are true.
     Counted(u64),

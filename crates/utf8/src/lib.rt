@@ -1,10 +1,12 @@
 // Well-formed UTF-8, by the Unicode Standard's Table 3-7. Text that is ASCII is tested by blocks of bytes.
+#![tactic(auto)]
+
 ghost use Rattle.std.specs.Prelude.{◌≡◌, ◌+◌, ◌≤◌, ◌<◌, length, drop, [], ◌∷◌};
 ghost use Rattle.utf8.specs.WellFormed.{well_formed, ◌to◌};
 ghost use Rattle.utf8.specs.Walking.{ascii, begins, width, limit, read_to, blocks_from};
 
 // Where whole sequences have been read to, or that one is ill-formed.
-#[derive(Drop)]
+#[derive(Clone, Copy)]
 enum Progress {
     At(usize),
     Ill,

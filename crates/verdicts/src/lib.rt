@@ -1,4 +1,6 @@
 // Verdicts on what is to be written, each the number of a refusal or 0; and lengths, counted up to one more than an envelope's ceiling.
+#![tactic(auto)]
+
 mod length;
 
 ghost use Rattle.std.specs.Prelude.{◌≡◌, ltb, take, drop};

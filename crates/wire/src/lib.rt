@@ -1,4 +1,6 @@
 // What every reader stands on: little-endian numbers with verdicts on them, and what a refusal says.
+#![tactic(auto)]
+
 mod faults;
 mod number;
 
@@ -6,7 +8,7 @@ pub use faults::{fault_at, fault_in_item};
 pub use number::{judge, number_2, number_4, number_8, unless_due};
 
 // What was refused, for the reader of a refusal.
-#[derive(Drop)]
+#[derive(Clone, Copy)]
 pub enum Kind {
     Envelope,
     Frame,
@@ -19,7 +21,7 @@ pub enum Kind {
 
 // A refusal: document 01's number, the byte place and the kind of what is refused, and the head of the innermost list
 // around it with the item's index there (0 and 0 where no list is around it).
-#[derive(Drop)]
+#[derive(Clone, Copy)]
 pub struct Fault {
     pub number: u16,
     pub place: usize,
@@ -29,14 +31,14 @@ pub struct Fault {
 }
 
 // A number and the place after it, or a refusal.
-#[derive(Drop)]
+#[derive(Clone, Copy)]
 pub enum NumberStep {
     Found(u64, usize),
     Refused(Fault),
 }
 
 // A place, or a refusal.
-#[derive(Drop)]
+#[derive(Clone, Copy)]
 pub enum PlaceStep {
     Found(usize),
     Refused(Fault),

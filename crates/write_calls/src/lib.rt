@@ -1,4 +1,6 @@
 // The calls that write envelopes, with numbers and lent slices alone: what each answers is one number, and how many bytes were written in a lent result.
+#![tactic(auto)]
+
 ghost use Rattle.std.specs.Prelude.{◌≡◌};
 ghost use Rattle.numbers.specs.Rows.{put};
 ghost use Rattle.outcome.specs.Outcome.{code_of};

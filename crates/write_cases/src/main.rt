@@ -1,5 +1,7 @@
 // Writes the envelope that the file of each argument asks for: prints its name, the answer, the result and the lent bytes as the call leaves
 // them, and what the envelope's reader makes of what was written.
+#![tactic(auto)]
+
 mod calls;
 
 use libc::STDOUT_FILENO;

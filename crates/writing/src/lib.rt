@@ -1,6 +1,7 @@
 // What the writers of envelopes answer, and a page's row as it is lent to them. The rules of writing and their theorems are in specs/ and proofs/.
+#![tactic(auto)]
 
-#[derive(Drop)]
+#[derive(Clone, Copy)]
 pub enum WriteAnswer {
     // How many bytes were written.
     Written(usize),
@@ -9,7 +10,7 @@ pub enum WriteAnswer {
 }
 
 // A row of the lent table of pages: any number may stand for bit 30.
-#[derive(Drop)]
+#[derive(Clone, Copy)]
 pub struct PageWords {
     pub column: u64,
     pub elements: u64,

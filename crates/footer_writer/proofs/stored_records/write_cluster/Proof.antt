@@ -1,8 +1,8 @@
 use Rattle.stores.proofs.Storing.{stored_none, stored_then, stored_as_lem}
 use Rattle.footer_writer.proofs.Bytes.{cluster_record}
 use borrow.Author.Rules.{rules}
-use Rattle.footer_writer.proofs.records.write_cluster.Statement.{statement}
-use Rattle.footer_writer.proofs.records.write_cluster.Tie as tie
+use Rattle.footer_writer.proofs.stored_records.write_cluster.Statement.{statement}
+use Rattle.footer_writer.proofs.stored_records.write_cluster.Tie as tie
 
 record-size-requires : tie.Need-record-size-requires
 record-size-requires c κs = search rules

@@ -1,8 +1,8 @@
 use Rattle.writing.specs.Footer.{checksum_piece}
 use Rattle.stores.proofs.Storing.{stored_none}
 use borrow.Author.Rules.{rules}
-use Rattle.footer_writer.proofs.records.write_checksum.Statement.{statement}
-use Rattle.footer_writer.proofs.records.write_checksum.Tie as tie
+use Rattle.footer_writer.proofs.stored_records.write_checksum.Statement.{statement}
+use Rattle.footer_writer.proofs.stored_records.write_checksum.Tie as tie
 
 store-4-requires : tie.Need-store-4-requires
 store-4-requires c κs = search rules
