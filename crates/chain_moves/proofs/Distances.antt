@@ -31,7 +31,7 @@ module _ (parents : List ℕ) where
   top_up k f t a =
       record {
         top = a.top;
-        before = λ j. elim j [ zero ↦ (λ l. t) | suc i ↦ (λ l. a.before i (omega arith)) ];
+        before = λ j. elim j as (λ i. i < suc k → top_level parents (ancestor parents i f) ≡ false) [ zero ↦ (λ l. t) | suc i ↦ (λ l. a.before i (omega arith)) ];
       }
 
   -- what is counted within n moves, where the chain ends within them

@@ -20,6 +20,7 @@ use Rattle.column_rules.proofs.TurnLaws.{page_accepted, turn_accepted, turn_refu
 
 -- a page that is refused by one of some numbers ends the pages with it
 refused_at : (ks : List ℕ) (o : Outcome) (i : ℕ) (words : List ℕ) → RefusedBy ks o → RefusedAt ks i (record { outcome = refuse_at o.number i; words = words })
+refused_at [] o i words x' = elim x' [ ]
 refused_at (k ∷ ks) o i words (inl e) = inl (ap (λ (x : Outcome). refuse_at x.number i) e)
 refused_at (k ∷ ks) o i words (inr r) = inr (refused_at ks o i words r)
 

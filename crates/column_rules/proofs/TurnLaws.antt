@@ -21,6 +21,7 @@ use Rattle.column_rules.specs.Statements.{in_column, page_elements}
 
 -- a refusal by one of some numbers is the refusal by its own number
 pub by_number : (ks : List ℕ) (o : Outcome) → RefusedBy ks o → o ≡ refuse o.number
+by_number [] o x' = elim x' [ ]
 by_number (k ∷ ks) o (inl e) = e ∙ ap (λ (x : Outcome). refuse x.number) (sym e)
 by_number (k ∷ ks) o (inr r) = by_number ks o r
 

@@ -8,7 +8,7 @@ use lib.Dec.{eqb}
 use lib.ListN.{length}
 use Rattle.frames.specs.declared.ListHead.{ListHead}
 use Rattle.envelope.specs.Features.{features}
-use Rattle.wire.specs.Reading.{Step, found, refused, Rule, after, give, tested, counted, in_item}
+use Rattle.wire.specs.Reading.{Step, found, refused, Rule, after, give, tested, counted, in_item, ◌>>◌}
 use Rattle.wire.proofs.Laws.{passed}
 use Rattle.frames.specs.Frames.{closed_by, items, list_head, list_count, list_stop}
 use Rattle.frames.proofs.Laws.{count_zero, counted_closed}
@@ -32,8 +32,17 @@ then_rest s rest k j (refused f) e = refl
 
 -- the rest is read where the opening ends
 pub opening_then : {A : Type 0} (checksum : ℕ) (strict : Bool) (rest : Rule A) (s : List ℕ) (at : ℕ) → after_opening checksum strict rest s at ≡ after (λ _. rest) s (opening checksum strict s at)
-opening_then checksum strict rest s at =
-    then_rest s rest _ _ (features (length s) s at) (λ _ p₁.
-    then_rest s rest _ _ (tested 4 (names checksum) s p₁) (λ _ p₂.
-    then_rest s rest _ _ (empty strict s p₂) (λ _ p₃.
-    then_rest s rest _ _ (empty strict s p₃) (λ _ p₄. refl))))
+opening_then {A} checksum strict rest s at =
+    let none : Rule (Unit {0}) = give (tt {0}) in
+    let one : List (Unit {0}) → Rule (Unit {0}) = λ _. none in
+    let two : List (Unit {0}) → Rule (Unit {0}) = λ _. empty strict >> none in
+    let three : ℕ → Rule (Unit {0}) = λ _. empty strict >> (empty strict >> none) in
+    let four : Unit {0} → Rule (Unit {0}) = λ _. tested 4 (names checksum) >> (empty strict >> (empty strict >> none)) in
+    let one' : List (Unit {0}) → Rule A = λ _. rest in
+    let two' : List (Unit {0}) → Rule A = λ _. empty strict >> rest in
+    let three' : ℕ → Rule A = λ _. empty strict >> (empty strict >> rest) in
+    let four' : Unit {0} → Rule A = λ _. tested 4 (names checksum) >> (empty strict >> (empty strict >> rest)) in
+    then_rest s rest four four' (features (length s) s at) (λ _ p₁.
+    then_rest s rest three three' (tested 4 (names checksum) s p₁) (λ _ p₂.
+    then_rest s rest two two' (empty strict s p₂) (λ _ p₃.
+    then_rest s rest one one' (empty strict s p₃) (λ _ p₄. refl))))

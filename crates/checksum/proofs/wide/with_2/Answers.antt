@@ -1,0 +1,23 @@
+use mathlib.Core.Path.{ap}
+use Prim.Native.Nat.{ℕ}
+use native.Mathlib.Omega.{arith}
+use lib.Bits.{xor_lt}
+use borrow.Author.Rules.{rules}
+use Rattle.checksum.specs.Wide.{finish}
+use Rattle.crc_register.proofs.Shifts.{xors, lefts, rights}
+use Rattle.checksum.proofs.Spread.{put}
+use Rattle.checksum.proofs.Turn.{put_last, least}
+use Rattle.checksum.proofs.Multiples.{shifts_2, multiple_2}
+use Rattle.checksum.proofs.wide.with_2.Goals as goal
+
+pub returns-then-words-lt2 : goal.returns-then-words-lt2
+returns-then-words-lt2 c = let a = c.args in
+    ap (λ (k : ℕ). finish k a.bytes.now a.s) (least 1 a.words c.if-words-lt2.true)
+
+pub returns : goal.returns
+unfolding finish xors lefts rights put
+returns c = let k = c.shared_slice_known-1 in
+    let a = c.args in
+    let w = c.word in
+    put_last a.bytes.now (λ j. omega (arith, k.given j)) 1 shifts_2 multiple_2 a.s.a a.s.b a.s.c a.s.d a.s.e w.result a.words
+    (xor_lt 64 a.s.a w.result (omega arith) (omega arith)) w.ensures (omega (arith, c.if-words-lt2.false)) c.requires

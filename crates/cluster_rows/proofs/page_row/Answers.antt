@@ -1,0 +1,5 @@
+use borrow.Author.Rules.{rules}
+use Rattle.cluster_rows.proofs.page_row.Goals as goal
+
+pub returns : goal.returns
+returns c = rw (← c.word-checksum.ensures, ← c.word.ensures, ← c.word-2.ensures, ← c.word-3.ensures, ← c.word-4.ensures)

@@ -1,9 +1,0 @@
-use mathlib.Core.Path.{refl}
-use Rattle.wire.proofs.faults.fault_at.Statement.{statement}
-use Rattle.wire.proofs.faults.fault_at.Tie as tie
-
-returns : tie.Need-returns
-returns c = refl
-
-pub fault-at-spec : {M : Type 1} → statement M
-fault-at-spec = tie.close (tie.spec returns)
