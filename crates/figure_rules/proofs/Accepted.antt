@@ -8,7 +8,7 @@ use native.Mathlib.Omega.{arith}
 use lib.ListN.{length, get_or, take, length-map}
 use Rattle.numbers.specs.Lists.{Each}
 use Rattle.numbers.specs.Numbers.{bytes_for, trailer}
-use Rattle.wire.specs.Reading.{Step, found, refused, tested}
+use Rattle.wire.specs.Reading.{Step, found, refused, Rule, ◌>>=◌, give, tested}
 use Rattle.wire.proofs.Laws.{never, bound}
 use Rattle.locator.specs.Locator.{stored_as, in_file}
 use Rattle.locator.proofs.Laws.{stored_few}
@@ -49,11 +49,14 @@ pub record SmallList (columns : ℕ) (pss : List (List PageRow)) : Type 0 where
 
 pub page_small : (file c bits : ℕ) (s : List ℕ) (at : ℕ) {x : PageRow} {p : ℕ} → page file c bits s at ≡ found x p → SmallPage x
 unfolding page
-page_small file c bits s at {x} =
-    bound (λ x _. SmallPage x) (tested 4 page_word) _ s at λ word p _.
-    bound (λ x _. SmallPage x) (tested 4 (stored_as (bytes_for (elements_in word) bits))) _ s p λ size q stored.
-    bound (λ x _. SmallPage x) (tested 8 (in_file file size (trailer (checksum_in word)))) _ s q λ offset r _ e.
-    let same : record { column = record { 0 = c }; elements = elements_in word; checksum = checksum_in word; size = size; offset = offset } ≡ x = cc in
+page_small file c bits s at {x} {p = p'} =
+    let made : ℕ → ℕ → ℕ → PageRow = λ word size offset. record { column = record { 0 = c }; elements = elements_in word; checksum = checksum_in word; size = size; offset = offset } in
+    let at_offset : ℕ → ℕ → Rule PageRow = λ word size. tested 8 (in_file file size (trailer (checksum_in word))) >>= (λ offset. give (made word size offset)) in
+    bound (λ x _. SmallPage x) (tested 4 page_word) (λ word. tested 4 (stored_as (bytes_for (elements_in word) bits)) >>= (λ size. at_offset word size)) s at λ word p _.
+    bound (λ x _. SmallPage x) (tested 4 (stored_as (bytes_for (elements_in word) bits))) (λ size. at_offset word size) s p λ size q stored.
+    bound (λ x _. SmallPage x) (tested 8 (in_file file size (trailer (checksum_in word)))) (λ offset. give (made word size offset)) s q λ offset r _ e.
+    let read : found (made word size offset) r ≡ found x p' = e in
+    let same : made word size offset ≡ x = cc in
     subst SmallPage same (record { elements_few = omega arith; size_few = stored_few (bytes_for (elements_in word) bits) s p stored })
 
 column_small : (strict : Bool) (file c bits sum : ℕ) (s : List ℕ) (at : ℕ) {ps : List PageRow} {p : ℕ} → pages strict file c bits sum s at ≡ found ps p → SmallColumn ps

@@ -64,18 +64,26 @@ string_moves s at {t} {p} e =
 head_moves : (n : ℕ) (s : List ℕ) (at : ℕ) {h : FieldHead} {p : ℕ} → field_head n s at ≡ found h p → at + 16 ≤ p
 unfolding field_head
 head_moves n s at {h} {p} =
-    bound On (number 4) _ s at (λ version p₁ e₁.
-    bound On (number 4) _ s p₁ (λ type_version p₂ e₂.
-    bound On (tested 4 (below n)) _ s p₂ (λ parent p₃ e₃.
-    bound On (tested 2 (listed 4)) _ s p₃ (λ role p₄ e₄.
-    bound On (tested 2 (listed 3)) _ s p₄ (λ flags p₅ e₅.
-    bound On (repetition flags) _ s p₅ (λ times p₆ e₆ g.
+    let made : ℕ → ℕ → ℕ → ℕ → ℕ → ℕ → FieldHead = λ version type_version parent role flags times. record { field_version = version; type_version = type_version; parent = record { 0 = parent }; role = role; flags = flags; repetition = times } in
+    let six : ℕ → ℕ → ℕ → ℕ → ℕ → ℕ → Rule FieldHead = λ version type_version parent role flags times. give (made version type_version parent role flags times) in
+    let five : ℕ → ℕ → ℕ → ℕ → ℕ → Rule FieldHead = λ version type_version parent role flags. repetition flags >>= six version type_version parent role flags in
+    let four : ℕ → ℕ → ℕ → ℕ → Rule FieldHead = λ version type_version parent role. tested 2 (listed 3) >>= five version type_version parent role in
+    let three : ℕ → ℕ → ℕ → Rule FieldHead = λ version type_version parent. tested 2 (listed 4) >>= four version type_version parent in
+    let two : ℕ → ℕ → Rule FieldHead = λ version type_version. tested 4 (below n) >>= three version type_version in
+    let one : ℕ → Rule FieldHead = λ version. number 4 >>= two version in
+    bound On (number 4) one s at (λ version p₁ e₁.
+    bound On (number 4) (two version) s p₁ (λ type_version p₂ e₂.
+    bound On (tested 4 (below n)) (three version type_version) s p₂ (λ parent p₃ e₃.
+    bound On (tested 2 (listed 4)) (four version type_version parent) s p₃ (λ role p₄ e₄.
+    bound On (tested 2 (listed 3)) (five version type_version parent role) s p₄ (λ flags p₅ e₅.
+    bound On (repetition flags) (six version type_version parent role flags) s p₅ (λ times p₆ e₆ g.
     let m₁ = number_moves 4 s at e₁ in
     let m₂ = number_moves 4 s p₁ e₂ in
     let m₃ = tested_moves 4 (below n) s p₂ e₃ in
     let m₄ = tested_moves 2 (listed 4) s p₃ e₄ in
     let m₅ = tested_moves 2 (listed 3) s p₄ e₅ in
     let m₆ = repetition_moves flags s p₅ e₆ in
+    let read : found (made version type_version parent role flags times) p₆ ≡ found h p = g in
     let end : p₆ ≡ p = cc in
     omega arith))))))
   where
