@@ -1,7 +1,8 @@
 # For the commands that run a proved program on files: their arguments, and the program, built where it is missing or older than its sources.
 # A command sets `root`, the repository, and `name`, its own name and the program's, defines `usage`, and then sources this file.
 
-program=$root/target/bin/$name
+# where rt leaves a program that it proved and built
+program=$root/crates/$name/out/$name
 
 fail() {
     echo "$name: $*" >&2
@@ -19,13 +20,15 @@ is_built() {
 build() {
     command -v rt >/dev/null || fail "the program is missing or older than its sources, and rt, which proves and builds it, is not in PATH"
     echo "$name: proving and building the program; from nothing this takes some minutes" >&2
+    # an older one must not pass for what this run builds
+    rm -f "$program" || fail "$program, which is older than its sources, could not be removed"
     local said
-    if ! said=$(cd "$root" && rt check "$name" 2>&1); then
+    # rt also runs what it has built, here on nothing, and ends with that run's status: whether the program is there tells how the build went
+    said=$(cd "$root/crates/$name" && rt run 2>&1)
+    if [ ! -x "$program" ]; then
         printf '%s\n' "$said" | tail -n 20 >&2
         fail "the program could not be built"
     fi
-    # rt leaves a program as it is where none of its own sources changed
-    touch "$program" || fail "$program is missing"
 }
 
 # Prints the usage and why the command's arguments are no good.

@@ -1,5 +1,5 @@
 //! Links the proved library: the archive that RNT_LIB names, or the one that
-//! `rt staticlib exports` writes.
+//! tools/staticlib.sh writes.
 
 use std::path::{Path, PathBuf};
 
@@ -13,7 +13,7 @@ fn main() {
     println!("cargo:rerun-if-changed={}", library.display());
     let library = library.canonicalize().unwrap_or_else(|error| {
         panic!(
-            "{}: {error}. Write it with `rt staticlib exports` at the root, or set RNT_LIB to another archive.",
+            "{}: {error}. Write it with tools/staticlib.sh, or set RNT_LIB to another archive.",
             library.display()
         )
     });

@@ -19,7 +19,7 @@ fn main() {
     println!("cargo:rerun-if-changed={}", library.display());
     let library = library.canonicalize().unwrap_or_else(|error| {
         panic!(
-            "{}: {error}. Write it with `rt staticlib exports` at the root, or set RNT_LIB to another \
+            "{}: {error}. Write it with tools/staticlib.sh, or set RNT_LIB to another \
              archive, or to `none` for the reference alone.",
             library.display()
         )

@@ -1,37 +1,45 @@
 // For programs that run cases, each from a file that an argument names: the words of a case, and what is printed of a call.
 #![tactic(auto)]
 
-ghost use Rattle.std.specs.Prelude.{◌≡◌, ℕ, ◌<◌, min, length, replicate, ◌==◌, slice_index};
+ghost use Rattle.std.specs.Prelude.{◌≡◌, ℕ, ◌<◌, min, length, replicate, ◌==◌, slice_index, IfOk};
+ghost use Rattle.std.specs.Io.{ReadsAtMost};
 ghost use Rattle.io.specs.Counts.{IsPrefixLen};
 ghost use Rattle.cases.specs.Words.{word_at};
 
-use libc::STDOUT_FILENO;
+use std::io::Read;
+use std::rt::Files;
+use std::{fs, io};
 
-// Prints the name of the file that argument number `i` names, and puts its bytes into a buffer. Answers how many there are.
-pub fn read_case(i: usize, input: &mut [u8]) -> usize
-    ensures { IsPrefixLen result input.new }
+// Prints the name of a file, and puts its bytes into a buffer. Answers how many there are.
+pub fn read_case<R: Files + Print>(rt: &R, name: &str, input: &mut [u8]) -> io::Result<usize>
+    ensures { ReadsAtMost result input.new }
 {
-    let mut name = io::buffer();
-    let length = os::arg(i, &mut name);
-    let fd = os::open_read(&name[..length]);
-    if fd < 0 {
-        os::fail(&name[..length]);
+    let mut file = fs::open(rt, name)?;
+    print!(rt; "{name}:")?;
+    read_full(&mut file, input)
+}
+
+// Reads until the buffer is full or there is nothing more to read, and answers how many bytes were read.
+pub fn read_full<R: Read>(reader: &mut R, buffer: &mut [u8]) -> io::Result<usize>
+    ensures { ReadsAtMost result buffer.new }
+{
+    let mut done = 0;
+    while done < buffer.len() {
+        let count = reader.read(&mut buffer[done..])?;
+        if count == 0 {
+            break;
+        }
+        done += count;
     }
-    io::write_all(STDOUT_FILENO, &name[..length]);
-    io::write_all(STDOUT_FILENO, b":");
-    let count = io::read_full(fd, input);
-    libc::close(fd);
-    count
+    Ok(done)
 }
 
 // Puts the words that some bytes spell into a table, again from the first of them where the table has more.
 pub fn take_words(bytes: &[u8], table: &mut [u64])
     ensures { (length table.new ≡ length table.old) × ((i : ℕ) → i < length table.old → slice_index table.new i ≡ word_at bytes.now i) }
 {
-    let mut i = 0;
-    while i < table.len() {
+    for i in 0..table.len() {
         table[i] = word_at(bytes, i);
-        i += 1;
     }
 }
 
@@ -56,59 +64,65 @@ pub fn fit(words: u64, table: &[u64]) -> usize
     table.len()
 }
 
-// A refusal's envelope and number; or the words of the result, those from `first` on before those in front of it. Answers whether the
-// call was accepted.
-pub fn show_answer(code: u32, res: &[u64], first: usize) -> bool
-    ensures { result ≡ (code == 0) }
+// So many bytes are lent, likewise.
+pub fn fit_bytes(count: u64, bytes: &[u8]) -> usize
+    ensures prefix_len { IsPrefixLen result bytes.now }
+    ensures value { result ≡ min count (length bytes.now) }
 {
-    if code != 0 {
-        io::write_all(STDOUT_FILENO, b" refused");
-        number((code / 256) as u64);
-        number((code % 256) as u64);
-        return false;
+    if count < bytes.len() as u64 {
+        return count as usize;
     }
-    io::write_all(STDOUT_FILENO, b" accepted");
-    numbers(res, first, res.len());
-    numbers(res, 0, first);
-    true
+    bytes.len()
 }
 
-fn number(n: u64) {
-    io::write_all(STDOUT_FILENO, b" ");
-    io::print_decimal(STDOUT_FILENO, n);
+// A refusal's envelope and number; or the words of the result, those from `first` on before those in front of it. Answers whether the
+// call was accepted.
+pub fn show_answer(rt: &impl Print, code: u32, res: &[u64], first: usize) -> io::Result<bool>
+    ensures { IfOk result (λ accepted. accepted ≡ (code == 0)) }
+{
+    if code != 0 {
+        print!(rt; " refused")?;
+        number(rt, (code / 256) as u64)?;
+        number(rt, (code % 256) as u64)?;
+        return Ok(false);
+    }
+    print!(rt; " accepted")?;
+    numbers(rt, res, first, res.len())?;
+    numbers(rt, res, 0, first)?;
+    Ok(true)
+}
+
+fn number(rt: &impl Print, n: u64) -> io::Result<()> {
+    print!(rt; " {n}")
 }
 
 // The words from `start` to `stop`.
-fn numbers(table: &[u64], start: usize, stop: usize) {
-    let mut i = start;
-    while i < stop {
+fn numbers(rt: &impl Print, table: &[u64], start: usize, stop: usize) -> io::Result<()> {
+    for i in start..stop {
         if i < table.len() {
-            number(table[i]);
+            number(rt, table[i])?;
         }
-        i += 1;
     }
+    Ok(())
 }
 
 // All words of a table, and likewise bytes. Answers how many there are.
-pub fn show_words(table: &[u64]) -> usize
-    ensures { result ≡ length table.now }
+pub fn show_words(rt: &impl Print, table: &[u64]) -> io::Result<usize>
+    ensures { IfOk result (λ count. count ≡ length table.now) }
 {
-    io::write_all(STDOUT_FILENO, b" |");
-    numbers(table, 0, table.len());
-    table.len()
+    print!(rt; " |")?;
+    numbers(rt, table, 0, table.len())?;
+    Ok(table.len())
 }
 
-pub fn show_bytes(bytes: &[u8]) -> usize
-    ensures { result ≡ length bytes.now }
+pub fn show_bytes(rt: &impl Print, bytes: &[u8]) -> io::Result<usize>
+    ensures { IfOk result (λ count. count ≡ length bytes.now) }
 {
-    io::write_all(STDOUT_FILENO, b" |");
-    let mut i = 0;
-    while i < bytes.len() {
-        io::write_all(STDOUT_FILENO, b" ");
-        io::print_hex(STDOUT_FILENO, bytes[i] as u64, 2);
-        i += 1;
+    print!(rt; " |")?;
+    for byte in bytes {
+        print!(rt; " {byte:02x}")?;
     }
-    bytes.len()
+    Ok(bytes.len())
 }
 
 // Of more lent bytes checksums are shown.
@@ -116,22 +130,22 @@ const SHOWN_BYTES: usize = 128;
 
 // Lent bytes of which so many are written: all, or two checksums. Of an envelope with its own checksum the checksum is always the same, so
 // that the first is of what stands before the last four bytes written, and the second of the rest. Answers how many bytes are lent.
-pub fn show_out(out: &[u8], written: usize) -> usize
-    ensures { result ≡ length out.now }
+pub fn show_out(rt: &impl Print, out: &[u8], written: usize) -> io::Result<usize>
+    ensures { IfOk result (λ count. count ≡ length out.now) }
 {
     if out.len() <= SHOWN_BYTES {
-        return show_bytes(out);
+        return show_bytes(rt, out);
     }
     let front = if written < 4 { 0 } else { written - 4 };
-    show_checksum(reader::text_of(out, 0, front));
+    show_checksum(rt, reader::text_of(out, 0, front))?;
     let rest = std::num::wrapping_sub_usize(out.len(), front);
-    show_checksum(reader::text_of(out, front, rest));
-    out.len()
+    show_checksum(rt, reader::text_of(out, front, rest))?;
+    Ok(out.len())
 }
 
-fn show_checksum(bytes: &[u8]) {
-    io::write_all(STDOUT_FILENO, b" ");
-    io::print_hex(STDOUT_FILENO, checksum::crc32(bytes) as u64, 8);
+fn show_checksum(rt: &impl Print, bytes: &[u8]) -> io::Result<()> {
+    let sum = checksum::crc32(bytes);
+    print!(rt; " {sum:08x}")
 }
 
 // How many bytes a call has written, by its result: none where that has no words.

@@ -1,5 +1,5 @@
-// A thin reader: an envelope that is lent, and a place in it. Its functions take it apart and call covered functions with the slice
-// and the number. `read_text` has plain parameters: who calls it needs no walk.
+// A thin reader: an envelope that is lent, and a place in it. Its functions take it apart and call others with the slice and the
+// number. `read_text` has plain parameters, for who has no reader.
 #![tactic(auto)]
 
 ghost use Rattle.std.specs.Prelude.{◌≡◌};
