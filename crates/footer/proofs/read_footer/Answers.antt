@@ -1,0 +1,19 @@
+use Rattle.envelope.specs.Answers.{open_step}
+use Rattle.header_schema.proofs.SchemaLaws.{header_accepted, header_refuses, its_checksum}
+use Rattle.footer.proofs.ReadLaws.{answered_refused, header_first, not_opened, footer_read_lem}
+use mathlib.Core.Path.{sym, ap, ◌∙◌}
+use borrow.Author.Rules.{rules}
+use Rattle.footer.proofs.read_footer.Goals as goal
+
+pub returns-in-Found : goal.returns-in-Found
+returns-in-Found c = let a = c.args in
+    let w = header_accepted a.header.now c.read_schema-schema.ensures c.in-Accepted.is in
+    footer_read_lem a.header.now a.footer.now a.file_length w.2 (sym c.open_envelope.ensures ∙ ap open_step c.in-Found.is) (its_checksum a.header.now c.read_schema-schema.ensures w.2) c.up_to.ensures c.carries_checksums.ensures c.read_payload.ensures
+
+pub returns-in-Refused-open_envelope : goal.returns-in-Refused-open_envelope
+returns-in-Refused-open_envelope c = let w = header_accepted c.args.header.now c.read_schema-schema.ensures c.in-Accepted.is in
+    answered_refused _ _ (not_opened c.args.header.now c.args.footer.now c.args.file_length w.2 (sym c.open_envelope.ensures ∙ ap open_step c.in-Refused-open_envelope.is))
+
+pub returns-in-Refused : goal.returns-in-Refused
+returns-in-Refused c = let w = header_refuses c.args.header.now c.read_schema-schema.ensures c.in-Refused.is in
+    answered_refused _ _ (header_first c.args.header.now c.args.footer.now c.args.file_length w)
