@@ -1,0 +1,12 @@
+-- `same_footers` meets its contract: clusters, links, then the counts.
+use borrow.Author.Rules.{rules}
+use Rattle.same_tables.proofs.same_footers.Goals as goal
+
+pub returns-then-same_words-2 : goal.returns-then-same_words-2
+returns-then-same_words-2 c = rw (← c.same_words.ensures, c.if-same_words.true, ← c.same_words-then-same_words.ensures, c.if-same_words-2.true) c.same_footer_counts.ensures
+
+pub returns-else-same_words-2 : goal.returns-else-same_words-2
+returns-else-same_words-2 c = simp (← c.same_words.ensures, c.if-same_words.true, ← c.same_words-then-same_words.ensures, c.if-same_words-2.false)
+
+pub returns-else-same_words : goal.returns-else-same_words
+returns-else-same_words c = simp (← c.same_words.ensures, c.if-same_words.false)
