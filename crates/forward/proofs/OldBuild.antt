@@ -11,7 +11,7 @@ use Rattle.numbers.specs.Numbers.{little}
 use Rattle.numbers.specs.Rows.{flat, over}
 use Rattle.numbers.proofs.Choice.{both_true}
 use Rattle.wire.specs.declared.Fault.{Fault}
-use Rattle.wire.specs.Reading.{Step, found, refused, Rule, ◌>>=◌, give, number, tested, after, mapped}
+use Rattle.wire.specs.Reading.{Step, found, refused, Rule, in_item, ◌>>=◌, ◌>>◌, give, number, tested, after, mapped}
 use Rattle.wire.proofs.Laws.{never}
 use Rattle.frames.specs.declared.ListHead.{ListHead}
 use Rattle.frames.specs.Frames.{closed, closed_by, record_head, record_body, record_of, within, items, list_body, list_head, list_of, at_most}
@@ -20,6 +20,7 @@ use Rattle.envelope.specs.Features.{features}
 use Rattle.header.specs.Tables.{header_of}
 use Rattle.outcome.specs.Outcome.{is_accepted}
 use Rattle.header.specs.Beside.{Beside, read}
+use Rattle.rows.specs.declared.Link.{Link}
 use Rattle.rows.specs.Words.{most_clusters, cluster_width, link_width, cluster_words}
 use Rattle.rows.specs.declared.ClusterRow.{ClusterRow}
 use Rattle.links.specs.Links.{link, link_list}
@@ -66,11 +67,16 @@ Old x y = (p : ℕ) × (y ≡ found (old_row x) p)
 cluster_old : (file sum : ℕ) (s : List ℕ) (at : ℕ) (x : ClusterRow) (q : ℕ) → cluster true file sum s at ≡ found x q → Old x (cluster false file sum s at)
 unfolding cluster list_checksum
 cluster_old file sum s at x q =
-    alike (Old x) _ _ s (tested 8 (starts_at sum) s at) λ first p₁.
-    alike (Old x) _ _ s (tested 8 (entry_count sum) s p₁) λ word p₂.
-    alike (Old x) _ _ s (link file s p₂) λ l p₃ e.
-    let (c, p₄, _, k) = after_found _ s (number 4 s p₃) x q e in
-    let same : record { first_entry = first; entries = word; page_list = l; checksum = c } ≡ x = cc in
+    let made : ℕ → ℕ → Link → ℕ → ClusterRow = λ first word l c. record { first_entry = first; entries = word; page_list = l; checksum = c } in
+    let third : Bool → ℕ → ℕ → Link → Rule ClusterRow = λ carried first word l. list_checksum carried >>= (λ c. give (made first word l c)) in
+    let second : Bool → ℕ → ℕ → Rule ClusterRow = λ carried first word. link file >>= third carried first word in
+    let first' : Bool → ℕ → Rule ClusterRow = λ carried first. tested 8 (entry_count sum) >>= second carried first in
+    alike (Old x) (first' true) (first' false) s (tested 8 (starts_at sum) s at) λ first p₁.
+    alike (Old x) (second true first) (second false first) s (tested 8 (entry_count sum) s p₁) λ word p₂.
+    alike (Old x) (third true first word) (third false first word) s (link file s p₂) λ l p₃ e.
+    let (c, p₄, _, k) = after_found (λ c. give (made first word l c)) s (number 4 s p₃) x q e in
+    let read : found (made first word l c) p₄ ≡ found x q = k in
+    let same : made first word l c ≡ x = cc in
     (p₃, ap (λ (r : ClusterRow). found (old_row r) p₃) same)
 
 record_old : (file sum : ℕ) (s : List ℕ) (at : ℕ) (x : ClusterRow) (q : ℕ) → record_of false (cluster true file sum) s at ≡ found x q
@@ -105,7 +111,7 @@ items_old : (file head n : ℕ) (done : List ClusterRow) (s : List ℕ) (at : �
 unfolding items
 items_old file head zero done s at rows q e = ap (mapped (map old_row)) e
 items_old file head (suc n) done s at rows q e =
-    let (x, p, e₁, e₂) = after_found _ s (within head (length done) (item true file done s at)) rows q e in
+    let (x, p, e₁, e₂) = after_found (λ x. items head (item true file) n (done ++ (x ∷ []))) s (within head (length done) (item true file done s at)) rows q e in
     let this : item false file (map old_row done) s at ≡ found (old_row x) p = ap (λ (sum : ℕ). record_of false (cluster false file sum) s at) (entries_old done) ∙ (record_old file (entries_of done) s at x p (in_item_lem head (length done) (item true file done s at) x p e₁)) in
     let rest : items head (item false file) n (map old_row done ++ (old_row x ∷ [])) s p ≡ found (map old_row rows) q =
     ap (λ (l : List ClusterRow). items head (item false file) n l s p) (sym (map-append old_row done (x ∷ []))) ∙ items_old file head n (done ++ (x ∷ [])) s p rows q e₂ in
@@ -118,8 +124,8 @@ clusters_old file s at rows q e = by (list_head (at_most most_clusters) s at) e
   where
     by : (h : Step ListHead) → list_body false (λ _. item true file) s at h ≡ found rows q → list_body false (λ _. item false file) s at h ≡ found (map old_row rows) q
     by (found h stop) e =
-        let (p, inner, end) = skipped _ stop (items at (item true file) h.count [] (take stop s) h.start) rows q e in
-        ap (closed_by _ false stop) (items_old file at h.count [] (take stop s) h.start rows p inner) ∙ ap (found (map old_row rows)) end
+        let (p, inner, end) = skipped (in_item at h.count) stop (items at (item true file) h.count [] (take stop s) h.start) rows q e in
+        ap (closed_by (in_item at h.count) false stop) (items_old file at h.count [] (take stop s) h.start rows p inner) ∙ ap (found (map old_row rows)) end
     by (refused f) e = never e
 
 -- the payload
@@ -134,18 +140,23 @@ afterwards carried file = cluster_list carried false file >>= λ clusters. link_
 
 lists_old : (file : ℕ) (s : List ℕ) (at : ℕ) (f : Footer) (q : ℕ) → afterwards true file s at ≡ found f q → OldFooter f q (afterwards false file s at)
 lists_old file s at f q e =
-    let (rows, p, e₁, k₁) = after_found _ s (cluster_list true false file s at) f q e in
-    ap (after _ s) (clusters_old file s at rows p e₁)
-    ∙ alike (OldFooter f q) _ _ s (link_list false file s p) (λ links p' k. ap (mapped old_rows) k) k₁
+    let made : List ClusterRow → List Link → Rule Footer = λ clusters metadata. give (record { clusters = clusters; metadata = metadata }) in
+    let rest : List ClusterRow → Rule Footer = λ clusters. link_list false file >>= made clusters in
+    let (rows, p, e₁, k₁) = after_found rest s (cluster_list true false file s at) f q e in
+    ap (after rest s) (clusters_old file s at rows p e₁)
+    ∙ alike (OldFooter f q) (made rows) (made (map old_row rows)) s (link_list false file s p) (λ links p' k. ap (mapped old_rows) k) k₁
 
 payload_old : (checksum file : ℕ) (s : List ℕ) (at : ℕ) (f : Footer) (q : ℕ) → payload true checksum file false s at ≡ found f q
     → OldFooter f q (payload false checksum file false s at)
 unfolding payload
 payload_old checksum file s at f q =
-    alike (OldFooter f q) _ _ s (features (length s) s at) λ _ p₁.
-    alike (OldFooter f q) _ _ s (tested 4 (names checksum) s p₁) λ _ p₂.
-    alike (OldFooter f q) _ _ s (empty false s p₂) λ _ p₃.
-    alike (OldFooter f q) _ _ s (empty false s p₃) λ _ p₄.
+    let third : Bool → Rule Footer = λ carried. empty false >> afterwards carried file in
+    let second : Bool → Rule Footer = λ carried. empty false >> third carried in
+    let first : Bool → Rule Footer = λ carried. tested 4 (names checksum) >> second carried in
+    alike (OldFooter f q) (λ _. first true) (λ _. first false) s (features (length s) s at) λ _ p₁.
+    alike (OldFooter f q) (λ _. second true) (λ _. second false) s (tested 4 (names checksum) s p₁) λ _ p₂.
+    alike (OldFooter f q) (λ _. third true) (λ _. third false) s (empty false s p₂) λ _ p₃.
+    alike (OldFooter f q) (λ _. afterwards true file) (λ _. afterwards false file) s (empty false s p₃) λ _ p₄.
     lists_old file s p₄ f q
 
 -- a footer of version 2 or above with minimum 1

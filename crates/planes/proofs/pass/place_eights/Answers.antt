@@ -11,11 +11,11 @@ loop-i-init c = let a = c.args in
 
 pub join_eight-requires : goal.join_eight-requires
 join_eight-requires c = (
-      c.requires.0,
-      (c.wide-a.ensures.1, c.wide-b.ensures.1, c.wide-c.ensures.1, c.wide-d.ensures.1),
-      (c.wide-e.ensures.1, c.wide-f.ensures.1, c.wide-g.ensures.1, c.wide-h.ensures.1),
-      omega (arith, c.loop-i.invariant.1.1, c.requires.1, c.loop-i-test.true),
-    )
+  c.requires.0,
+  (c.wide-a.ensures.1, c.wide-b.ensures.1, c.wide-c.ensures.1, c.wide-d.ensures.1),
+  (c.wide-e.ensures.1, c.wide-f.ensures.1, c.wide-g.ensures.1, c.wide-h.ensures.1),
+  omega (arith, c.loop-i.invariant.1.1, c.requires.1, c.loop-i-test.true),
+)
 
 pub loop-i-preserved : goal.loop-i-preserved
 loop-i-preserved c = let t = c.loop-i-test.true in
