@@ -1,0 +1,8 @@
+use borrow.Author.Rules.{rules}
+use Rattle.report.proofs.header_line.Goals as goal
+
+pub returns-in-Accepted : goal.returns-in-Accepted
+returns-in-Accepted c = rw c.in-Accepted.is c.accepted_line.ensures
+
+pub returns-in-Refused : goal.returns-in-Refused
+returns-in-Refused c = rw c.in-Refused.is c.refused_line.ensures
