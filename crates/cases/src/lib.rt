@@ -10,6 +10,9 @@ use std::io::Read;
 use std::rt::Files;
 use std::{fs, io};
 
+// No more bytes of a case are read.
+pub const CASE_BYTES: usize = 65536;
+
 // Prints the name of a file, and puts its bytes into a buffer. Answers how many there are.
 pub fn read_case<R: Files + Print>(rt: &R, name: &str, input: &mut [u8]) -> io::Result<usize>
     ensures { ReadsAtMost result input.new }

@@ -1,4 +1,5 @@
-// The calls of the library under C names: include/rntuple_check.h declares them. A slice is passed as a pointer and a length.
+// The calls of the library under C names: include/rntuple_check.h declares them, and `exports_c` has them in the archive. A slice is passed as a pointer and a
+// length.
 #![tactic(auto)]
 
 ghost use Rattle.std.specs.Prelude.{◌≡◌, length};

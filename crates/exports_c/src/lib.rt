@@ -1,4 +1,4 @@
-// The library for C: include/rntuple_check.h declares these calls. A slice is passed as a pointer and a length. Each call is that of `exports` with the same name.
+// The library for C: include/rntuple_check.h declares these calls. Each is the call of `exports` with the same name. A slice is passed as a pointer and a length.
 #![tactic(auto)]
 
 ghost use Rattle.std.specs.Prelude.{◌≡◌, length};

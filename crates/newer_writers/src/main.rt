@@ -9,7 +9,8 @@ mod case;
 mod compare;
 
 use compare::{MOVES, OLD_ROW, PAIRING};
-use libc::STDOUT_FILENO;
+use std::io::Read;
+use std::{fs, io};
 
 // What is counted: newer envelopes by what `compare` answers, read with other tables (0) or with the same; those of which a word was
 // changed, told apart or, 8 further on, not; envelopes refused as is due; added bytes; and page lists refused for an old row. The kind of
@@ -31,57 +32,64 @@ const NEWER_HEAD: u64 = 65538;
 // The code of 26 of a page list.
 const STALE_CODE: u64 = 794;
 
-fn main() {
-    let path = b"cases";
-    let file = os::open_read(path);
-    if file < 0 {
-        os::fail(path);
-        return;
-    }
-    run_cases(file);
+fn main(rt: HostRuntime) -> io::Result<()> {
+    let mut file = fs::open(&rt, "cases")?;
+    run_cases(&rt, &mut file)
 }
 
 // There are fewer than 1,000 cases.
-fn run_cases(file: i32) {
+fn run_cases(rt: &impl Print, file: &mut impl Read) -> io::Result<()> {
     let mut counts = [0u64; 56];
-    let mut turns: usize = 0;
-    while turns < 1000 {
-        next_case(file, &mut counts);
-        turns += 1;
+    for _ in 0..1000 {
+        next_case(file, &mut counts)?;
     }
-    print_all(&counts);
+    print_all(rt, &counts)
 }
 
-fn print_all(counts: &[u64; 56]) {
-    print_counts(b"header: ", counts, 1);
-    print_counts(b"moves to the top: ", counts, MOVES);
-    print_counts(b"footer: ", counts, 2);
-    print_counts(b"footer raised from version 1: ", counts, 4);
-    print_counts(b"page list: ", counts, 3);
-    print_counts(b"page list and its row: ", counts, PAIRING);
-    io::write_all(STDOUT_FILENO, b"page list and an old row: ");
-    print_count(counts, PAIRING, STALE, b" refused 26\n");
+fn print_all(rt: &impl Print, counts: &[u64; 56]) -> io::Result<()> {
+    print_counts(rt, "header: ", counts, 1)?;
+    print_counts(rt, "moves to the top: ", counts, MOVES)?;
+    print_counts(rt, "footer: ", counts, 2)?;
+    print_counts(rt, "footer raised from version 1: ", counts, 4)?;
+    print_counts(rt, "page list: ", counts, 3)?;
+    print_counts(rt, "page list and its row: ", counts, PAIRING)?;
+    rt.print("page list and an old row: ")?;
+    print_count(rt, counts, PAIRING, STALE, " refused 26\n")
 }
 
-fn print_counts(name: &[u8], counts: &[u64; 56], kind: u64) {
-    io::write_all(STDOUT_FILENO, name);
-    print_count(counts, kind, ADDED, b" added bytes, each of 256 values: ");
-    print_count(counts, kind, compare::SAME, b" read the same, ");
+fn print_counts(rt: &impl Print, name: &str, counts: &[u64; 56], kind: u64) -> io::Result<()> {
+    rt.print(name)?;
     print_count(
+        rt,
+        counts,
+        kind,
+        ADDED,
+        " added bytes, each of 256 values: ",
+    )?;
+    print_count(rt, counts, kind, compare::SAME, " read the same, ")?;
+    print_count(
+        rt,
         counts,
         kind,
         REFUSED,
-        b" refused 11 where the version is the minimum, ",
-    );
-    print_count(counts, kind, TOLD, b" changed words told apart\n");
+        " refused 11 where the version is the minimum, ",
+    )?;
+    print_count(rt, counts, kind, TOLD, " changed words told apart\n")
 }
 
-fn print_count(counts: &[u64; 56], kind: u64, what: u64, words: &[u8]) {
+fn print_count(
+    rt: &impl Print,
+    counts: &[u64; 56],
+    kind: u64,
+    what: u64,
+    words: &str,
+) -> io::Result<()> {
     let at = std::num::wrapping_add_u64(kind, what) as usize;
     if at < 56 {
-        io::print_decimal(STDOUT_FILENO, counts[at]);
-        io::write_all(STDOUT_FILENO, words);
+        let count = counts[at];
+        print!(rt; "{count}{words}")?;
     }
+    Ok(())
 }
 
 fn add(counts: &mut [u64; 56], kind: u64, what: u64) {
@@ -92,10 +100,10 @@ fn add(counts: &mut [u64; 56], kind: u64, what: u64) {
 }
 
 // Reads the next case, if there is one, and runs it; a header also for its moves, and a page list as a pairing.
-fn next_case(file: i32, counts: &mut [u64; 56]) {
+fn next_case(file: &mut impl Read, counts: &mut [u64; 56]) -> io::Result<()> {
     let mut bytes = [0u8; 2092];
-    if io::read_full(file, &mut bytes) < case::BYTES {
-        return;
+    if cases::read_full(file, &mut bytes)? < case::BYTES {
+        return Ok(());
     }
     let numbers = case::numbers_of(&bytes);
     let kind = numbers[case::KIND];
@@ -106,14 +114,13 @@ fn next_case(file: i32, counts: &mut [u64; 56]) {
     if kind == 3 {
         run_case(&mut bytes, numbers, PAIRING, counts);
     }
+    Ok(())
 }
 
 fn run_case(bytes: &mut [u8; 2092], numbers: [u64; 11], kind: u64, counts: &mut [u64; 56]) {
     add(counts, kind, ADDED);
-    let mut value: u64 = 0;
-    while value < 256 {
+    for value in 0..256 {
         run_value(bytes, numbers, kind, counts, value);
-        value += 1;
     }
 }
 

@@ -1,10 +1,11 @@
-// Writes the name of a header, and its description, which is empty. The functions here call `reader::read_text`, whose parameters are
-// plain, so none of them needs a walk.
+// Writes the name of a header, and its description, which is empty.
 #![tactic(auto)]
 
 ghost use Rattle.std.specs.Prelude.{◌≡◌};
 ghost use Rattle.text.specs.Strings.{string};
 ghost use Rattle.reader_main.specs.Characters.{characters_of};
+
+use std::io;
 
 // The characters of the string at a place, none where it is refused.
 fn string_text(envelope: &[u8], at: usize) -> &[u8]
@@ -16,11 +17,11 @@ fn string_text(envelope: &[u8], at: usize) -> &[u8]
     }
 }
 
-fn main() {
+fn main(rt: HostRuntime) -> io::Result<()> {
     let envelope =
         b"\x01\x00\x01\x00\x00\x00\x00\x00\x00\x00\x00\x00\x05\x00\x00\x00event\x00\x00\x00\x00\xf8\xff\xff\xff\x00\x00\x00\x00\xf8\xff\xff\xff\x00\x00\x00\x00\xf8\xff\xff\xff\x00\x00\x00\x00)\xb5r\x02";
-    io::write_all(1, string_text(envelope, 12));
-    io::write_all(1, b"\n");
-    io::write_all(1, string_text(envelope, 21));
-    io::write_all(1, b"\n");
+    rt.write_all(string_text(envelope, 12))?;
+    rt.println("")?;
+    rt.write_all(string_text(envelope, 21))?;
+    rt.println("")
 }

@@ -2,6 +2,8 @@
 ghost use Rattle.std.specs.Prelude.{◌≡◌, length};
 ghost use Rattle.io.specs.Counts.{IsPrefixLen};
 
+use std::io;
+
 // A case is fifteen numbers of eight bytes each and then the strings or the header, and the words of three tables. The numbers, by their
 // places: what is called, 1 a header, 2 a footer, 3 a page list.
 const CALLED: usize = 0;
@@ -48,34 +50,40 @@ const PARTS: usize = 120;
 // More words are not shown.
 const SHOWN_WORDS: usize = 128;
 
-pub fn call(bytes: &[u8]) {
+pub fn call(rt: &impl Print, bytes: &[u8]) -> io::Result<()> {
     let mut case = [0u64; 15];
     cases::take_words(bytes, &mut case);
     let first = reader::text_of(bytes, PARTS, case[FIRST_PART] as usize);
     if case[ZEROS] == 0 {
-        call_with(case, first, bytes);
+        call_with(rt, case, first, bytes)
     } else {
         let all = cases::filled(0);
-        call_with(case, reader::text_of(&all, 0, case[ZEROS] as usize), bytes);
+        call_with(
+            rt,
+            case,
+            reader::text_of(&all, 0, case[ZEROS] as usize),
+            bytes,
+        )
     }
 }
 
 // Writes into lent bytes that are EE, with a result of nines.
-fn call_with(case: [u64; 15], first: &[u8], bytes: &[u8]) {
+fn call_with(rt: &impl Print, case: [u64; 15], first: &[u8], bytes: &[u8]) -> io::Result<()> {
     let mut lent = cases::filled(238);
-    let room = io::count((case[ROOM] % 4294967296) as isize, &lent);
+    let room = cases::fit_bytes(case[ROOM] % 4294967296, &lent);
     let out = &mut lent[..room];
     let mut nines = [9u64; 4];
     let words = cases::fit(case[RESULT], &nines);
     let result = &mut nines[..words];
     let code = write(case, first, bytes, out, result);
-    let accepted = cases::show_answer(code, &[], 0);
-    cases::show_words(result);
+    let accepted = cases::show_answer(rt, code, &[], 0)?;
+    cases::show_words(rt, result)?;
     let written = cases::written(result);
-    cases::show_out(out, written);
+    cases::show_out(rt, out, written)?;
     if accepted {
-        read_back(case, first, reader::text_of(out, 0, written));
+        read_back(rt, case, first, reader::text_of(out, 0, written))?;
     }
+    Ok(())
 }
 
 fn write(case: [u64; 15], first: &[u8], bytes: &[u8], out: &mut [u8], res: &mut [u64]) -> u32 {
@@ -149,7 +157,7 @@ fn take_table(bytes: &[u8], at: usize, given: u64, lent: u64, table: &mut [u64])
 }
 
 // Reads what was written into tables of nines that have as many words as those that it was written from.
-fn read_back(case: [u64; 15], header: &[u8], written: &[u8]) {
+fn read_back(rt: &impl Print, case: [u64; 15], header: &[u8], written: &[u8]) -> io::Result<()> {
     let mut a = [9u64; 8192];
     let mut b = [9u64; 8192];
     let mut c = [9u64; 8192];
@@ -158,12 +166,14 @@ fn read_back(case: [u64; 15], header: &[u8], written: &[u8]) {
     let aliases = cases::fit(case[LENT_THIRD], &c);
     match case[CALLED] {
         1 => read_header(
+            rt,
             written,
             &mut a[..fields],
             &mut b[..columns],
             &mut c[..aliases],
         ),
         2 => read_footer(
+            rt,
             header,
             written,
             case[FILE_LENGTH],
@@ -171,6 +181,7 @@ fn read_back(case: [u64; 15], header: &[u8], written: &[u8]) {
             &mut b[..columns],
         ),
         _ => read_page_list(
+            rt,
             header,
             written,
             case[ENTRIES],
@@ -180,22 +191,29 @@ fn read_back(case: [u64; 15], header: &[u8], written: &[u8]) {
     }
 }
 
-fn read_header(written: &[u8], fields: &mut [u64], columns: &mut [u64], aliases: &mut [u64]) {
+fn read_header(
+    rt: &impl Print,
+    written: &[u8],
+    fields: &mut [u64],
+    columns: &mut [u64],
+    aliases: &mut [u64],
+) -> io::Result<()> {
     let mut result = [9u64; 7];
     let code = exports::rnt_read_header(written, fields, columns, aliases, &mut result);
-    cases::show_answer(code, &result, 4);
-    show_table(fields);
-    show_table(columns);
-    show_table(aliases);
+    cases::show_answer(rt, code, &result, 4)?;
+    show_table(rt, fields)?;
+    show_table(rt, columns)?;
+    show_table(rt, aliases)
 }
 
 fn read_footer(
+    rt: &impl Print,
     header: &[u8],
     written: &[u8],
     file_length: u64,
     clusters: &mut [u64],
     metadata: &mut [u64],
-) {
+) -> io::Result<()> {
     let mut result = [9u64; 2];
     let code = exports::rnt_read_footer(
         header,
@@ -205,18 +223,19 @@ fn read_footer(
         metadata,
         &mut result,
     );
-    cases::show_answer(code, &result, 0);
-    show_table(clusters);
-    show_table(metadata);
+    cases::show_answer(rt, code, &result, 0)?;
+    show_table(rt, clusters)?;
+    show_table(rt, metadata)
 }
 
 fn read_page_list(
+    rt: &impl Print,
     header: &[u8],
     written: &[u8],
     entries: u64,
     file_length: u64,
     pages: &mut [u64],
-) {
+) -> io::Result<()> {
     let mut result = [9u64; 1];
     let code = exports::rnt_read_page_list(
         header,
@@ -226,14 +245,15 @@ fn read_page_list(
         pages,
         &mut result,
     );
-    cases::show_answer(code, &result, 0);
-    show_table(pages);
+    cases::show_answer(rt, code, &result, 0)?;
+    show_table(rt, pages)
 }
 
-fn show_table(table: &[u64]) {
+fn show_table(rt: &impl Print, table: &[u64]) -> io::Result<()> {
     if table.len() <= SHOWN_WORDS {
-        cases::show_words(table);
+        cases::show_words(rt, table)?;
     }
+    Ok(())
 }
 
 // Rows of pages for more bytes than an envelope may have.

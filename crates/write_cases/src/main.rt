@@ -4,21 +4,20 @@
 
 mod calls;
 
-use libc::STDOUT_FILENO;
+use std::rt::Files;
+use std::{env, io};
 
-fn main() {
-    let count = os::arg_count();
-    let mut i = 1;
-    while i < count {
-        run(i);
-        i += 1;
+fn main(rt: HostRuntime) -> io::Result<()> {
+    for name in env::args(&rt)?.skip(1) {
+        run(&rt, name.as_str())?;
     }
+    Ok(())
 }
 
-// The case of argument number `i`.
-fn run(i: usize) {
-    let mut input = io::large_buffer();
-    let count = cases::read_case(i, &mut input);
-    calls::call(&input[..count]);
-    io::write_all(STDOUT_FILENO, b"\n");
+// The case of the file of this name.
+fn run<R: Files + Print>(rt: &R, name: &str) -> io::Result<()> {
+    let mut input = [0u8; cases::CASE_BYTES];
+    let count = cases::read_case(rt, name, &mut input)?;
+    calls::call(rt, &input[..count])?;
+    rt.println("")
 }

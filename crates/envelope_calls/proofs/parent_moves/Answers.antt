@@ -1,6 +1,5 @@
 use native.Mathlib.Omega.{arith}
 use Rattle.envelope_calls.proofs.Called.{moves_short, moves_called}
-use borrow.Author.Rules.{rules}
 use Rattle.envelope_calls.proofs.parent_moves.Goals as goal
 
 pub returns-then-res-lt1 : goal.returns-then-res-lt1

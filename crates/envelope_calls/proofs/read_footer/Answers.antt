@@ -1,6 +1,5 @@
 use native.Mathlib.Omega.{arith}
 use Rattle.envelope_calls.proofs.Called.{footer_short, footer_called}
-use borrow.Author.Rules.{rules}
 use Rattle.envelope_calls.proofs.read_footer.Goals as goal
 
 pub returns-then-res-lt2 : goal.returns-then-res-lt2

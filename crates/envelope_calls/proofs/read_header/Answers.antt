@@ -1,6 +1,5 @@
 use native.Mathlib.Omega.{arith}
 use Rattle.envelope_calls.proofs.Called.{header_short, header_called}
-use borrow.Author.Rules.{rules}
 use Rattle.envelope_calls.proofs.read_header.Goals as goal
 
 pub returns-then-res-lt7 : goal.returns-then-res-lt7

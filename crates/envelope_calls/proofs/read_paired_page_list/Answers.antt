@@ -1,6 +1,5 @@
 use native.Mathlib.Omega.{arith}
 use Rattle.envelope_calls.proofs.Called.{page_list_short, page_list_called}
-use borrow.Author.Rules.{rules}
 use Rattle.envelope_calls.proofs.read_paired_page_list.Goals as goal
 
 pub returns-then-res-lt1 : goal.returns-then-res-lt1
