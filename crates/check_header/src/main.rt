@@ -1,14 +1,14 @@
 // Reads a header of at most 65,536 bytes from standard input, and prints what the reader answers.
 #![tactic(auto)]
 
-use libc::{STDIN_FILENO, STDOUT_FILENO};
+use std::io;
 
-fn main() {
+fn main(rt: HostRuntime) -> io::Result<()> {
     // One byte more than a header may have, so that a longer input shows.
     let mut input = [0u8; report::MOST_BYTES + 1];
-    let count = io::read_full(STDIN_FILENO, &mut input);
+    let count = cases::read_full(&mut rt.stdin(), &mut input)?;
     let line = report::check_header(&input[..count]);
     let bytes = line.bytes;
     let len = line.len;
-    io::write_all(STDOUT_FILENO, &bytes[..len]);
+    rt.write_all(&bytes[..len])
 }

@@ -3,7 +3,8 @@
 
 mod calls;
 
-use libc::STDOUT_FILENO;
+use std::rt::Files;
+use std::{env, io};
 
 // A case is ten numbers of eight bytes each, of which `calls` names most, and two parts behind them: envelopes or a page, a header and a
 // file, or words and a plane. How many bytes the first part has; the second has the rest.
@@ -17,30 +18,32 @@ const ZEROS: usize = 9;
 // Where the parts start.
 const PARTS: usize = 80;
 
-fn main() {
-    let count = os::arg_count();
-    let mut i = 1;
-    while i < count {
-        run(i);
-        i += 1;
+// A case has no more bytes than this.
+const CASE_BYTES: usize = 65536;
+
+fn main(rt: HostRuntime) -> io::Result<()> {
+    for name in env::args(&rt)?.skip(1) {
+        run(&rt, name.as_str())?;
     }
+    Ok(())
 }
 
-// The case of argument number `i`.
-fn run(i: usize) {
-    let mut input = io::large_buffer();
-    let count = cases::read_case(i, &mut input);
+// The case of the file of this name.
+fn run<R: Files + Print>(rt: &R, name: &str) -> io::Result<()> {
+    let mut input = [0u8; CASE_BYTES];
+    let count = cases::read_case(rt, name, &mut input)?;
     let bytes = &input[..count];
     let all = cases::filled(0);
     let mut case = [0u64; 10];
     cases::take_words(bytes, &mut case);
     let stop = std::num::wrapping_add_usize(PARTS, case[FIRST_PART] as usize);
     calls::call(
+        rt,
         case,
         part(case, 1, bytes, PARTS, stop, &all),
         part(case, 2, bytes, stop, bytes.len(), &all),
-    );
-    io::write_all(STDOUT_FILENO, b"\n");
+    )?;
+    rt.println("")
 }
 
 // The bytes of part number `number`, which stand from `start` to `stop`, or the zeros for it.

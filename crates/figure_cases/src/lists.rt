@@ -1,5 +1,6 @@
 // The page lists of a case, reported one after another.
 use crate::{PARTS, RESULT};
+use std::io;
 
 // The other numbers of such a case, by their places: how many words the report has, how many lists were accepted and refused before, and how many
 // bytes the rows of the parts have.
@@ -29,7 +30,7 @@ struct Lists {
     refused: u64,
 }
 
-pub fn report(case: [u64; 6], bytes: &[u8]) {
+pub fn report(rt: &impl Print, case: [u64; 6], bytes: &[u8]) -> io::Result<()> {
     let mut table = [0u64; 64];
     cases::take_words(
         reader::text_of(bytes, PARTS, case[ROW_BYTES] as usize),
@@ -43,30 +44,31 @@ pub fn report(case: [u64; 6], bytes: &[u8]) {
     let turns = cases::fit(rows::word(&table, ROW_WORDS, TURNS, 1) / 8, &all);
     let zeros = cases::filled(0);
     report_all(
+        rt,
         case,
         bytes,
         &zeros,
         &table,
         &all[..turns],
         &mut lent[..words],
-    );
+    )
 }
 
 // Each list in its turn, with the counts that the call before it hands over.
 fn report_all<'a>(
+    rt: &impl Print,
     case: [u64; 6],
     bytes: &'a [u8],
     zeros: &'a [u8],
     table: &[u64],
     turns: &[u64],
     words: &mut [u64],
-) {
+) -> io::Result<()> {
     let mut so_far = counts_of(case);
-    let mut i = 0;
-    while i < turns.len() {
-        so_far = report_list(case, bytes, zeros, table, turns[i], so_far, words);
-        i += 1;
+    for number in turns {
+        so_far = report_list(rt, case, bytes, zeros, table, *number, so_far, words)?;
     }
+    Ok(())
 }
 
 // The counts that the first call gets.
@@ -79,6 +81,7 @@ fn counts_of(case: [u64; 6]) -> Lists {
 
 // One list, with a result of nines. Where the result is too short the counts stay.
 fn report_list<'a>(
+    rt: &impl Print,
     case: [u64; 6],
     bytes: &'a [u8],
     zeros: &'a [u8],
@@ -86,7 +89,7 @@ fn report_list<'a>(
     number: u64,
     so_far: Lists,
     words: &mut [u64],
-) -> Lists {
+) -> io::Result<Lists> {
     let mut nines = [9u64; 4];
     let result_words = cases::fit(case[RESULT], &nines);
     let result = &mut nines[..result_words];
@@ -100,16 +103,16 @@ fn report_list<'a>(
         words,
         result,
     );
-    cases::show_answer(code, &[], 0);
-    cases::show_words(result);
-    cases::show_words(words);
+    cases::show_answer(rt, code, &[], 0)?;
+    cases::show_words(rt, result)?;
+    cases::show_words(rt, words)?;
     if result_words < 2 {
-        return so_far;
+        return Ok(so_far);
     }
-    Lists {
+    Ok(Lists {
         accepted: rows::word(result, 2, 0, 0),
         refused: rows::word(result, 2, 0, 1),
-    }
+    })
 }
 
 // A part of a case. One that has more bytes than the whole case is zeros.

@@ -4,7 +4,8 @@
 
 mod lists;
 
-use libc::STDOUT_FILENO;
+use std::rt::Files;
+use std::{env, io};
 
 // A case is six numbers of eight bytes each, and behind them a page, or the parts that `lists` names. The first two numbers, by their places: 1 where
 // a page is counted, and how many words of the result are lent. Of a page there are two more: how many elements it has, and what is handed
@@ -20,38 +21,40 @@ const CHECKSUM: usize = 3;
 // Where the page starts, or the rows of the parts.
 const PARTS: usize = 48;
 
-fn main() {
-    let count = os::arg_count();
-    let mut i = 1;
-    while i < count {
-        run(i);
-        i += 1;
+// A case has no more bytes than this.
+const CASE_BYTES: usize = 65536;
+
+fn main(rt: HostRuntime) -> io::Result<()> {
+    for name in env::args(&rt)?.skip(1) {
+        run(&rt, name.as_str())?;
     }
+    Ok(())
 }
 
-// The case of argument number `i`.
-fn run(i: usize) {
-    let mut input = io::large_buffer();
-    let count = cases::read_case(i, &mut input);
+// The case of the file of this name.
+fn run<R: Files + Print>(rt: &R, name: &str) -> io::Result<()> {
+    let mut input = [0u8; CASE_BYTES];
+    let count = cases::read_case(rt, name, &mut input)?;
     let bytes = &input[..count];
     let mut case = [0u64; 6];
     cases::take_words(bytes, &mut case);
     if case[CALLED] == 1 {
         let length = std::num::wrapping_sub_usize(count, PARTS);
-        count_true(case, reader::text_of(bytes, PARTS, length));
+        count_true(rt, case, reader::text_of(bytes, PARTS, length))?;
     } else {
-        lists::report(case, bytes);
+        lists::report(rt, case, bytes)?;
     }
-    io::write_all(STDOUT_FILENO, b"\n");
+    rt.println("")
 }
 
 // Counts with a result of nines.
-fn count_true(case: [u64; 6], page: &[u8]) {
+fn count_true(rt: &impl Print, case: [u64; 6], page: &[u8]) -> io::Result<()> {
     let mut nines = [9u64; 4];
     let words = cases::fit(case[RESULT], &nines);
     let result = &mut nines[..words];
     let checksum = (case[CHECKSUM] % 4294967296) as u32;
     let code = exports::rnt_count_true(case[ELEMENTS], checksum, page, result);
-    cases::show_answer(code, &[], 0);
-    cases::show_words(result);
+    cases::show_answer(rt, code, &[], 0)?;
+    cases::show_words(rt, result)?;
+    Ok(())
 }

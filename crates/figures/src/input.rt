@@ -1,30 +1,42 @@
 // What the arguments name. Where one is no good, standard error says why.
 use figure_table::Numeral;
-use libc::STDERR_FILENO;
+use std::rt::Files;
+use std::{fs, io};
 
-// Opens the file that an argument names. Answers a negative number where it cannot be read.
-pub fn open_argument(argument: usize) -> i32 {
-    let mut name = io::buffer();
-    let length = os::arg(argument, &mut name);
-    let fd = os::open_read(&name[..length]);
-    if fd < 0 {
-        os::fail(&name[..length]);
+// The argument with this number, with no characters where there is none.
+fn argument(arguments: &[String], number: usize) -> &str {
+    match arguments.get(number) {
+        Some(text) => text.as_str(),
+        None => "",
     }
-    fd
+}
+
+// Opens the file that an argument names. Answers none where it cannot be read.
+pub fn open_argument<R: Files + Eprint>(
+    rt: &R,
+    arguments: &[String],
+    number: usize,
+) -> io::Result<Option<R::File>> {
+    let name = argument(arguments, number);
+    match fs::open(rt, name) {
+        Ok(file) => Ok(Some(file)),
+        Err(error) => {
+            eprintln!(rt; "{name}: {error}")?;
+            Ok(None)
+        }
+    }
 }
 
 // The number that an argument is.
-pub fn number_argument(argument: usize) -> Numeral {
-    let mut text = io::buffer();
-    let length = os::arg(argument, &mut text);
-    let number = figure_table::number_of(&text[..length]);
-    if let Numeral::None = number {
-        io::write_all(STDERR_FILENO, b"figures: ");
-        io::write_all(STDERR_FILENO, &text[..length]);
-        io::write_all(
-            STDERR_FILENO,
-            b": no number from 0 to 18446744073709551615\n",
-        );
+pub fn number_argument(
+    rt: &impl Eprint,
+    arguments: &[String],
+    number: usize,
+) -> io::Result<Numeral> {
+    let text = argument(arguments, number);
+    let numeral = figure_table::number_of(text.as_bytes());
+    if let Numeral::None = numeral {
+        eprintln!(rt; "figures: {text}: no number from 0 to 18446744073709551615")?;
     }
-    number
+    Ok(numeral)
 }

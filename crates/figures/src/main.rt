@@ -6,7 +6,7 @@ mod input;
 mod lists;
 mod table;
 
-use libc::STDERR_FILENO;
+use std::{env, io};
 
 // The arguments before those of the lists: the program's name and the header.
 const FIRST_LIST: usize = 2;
@@ -14,25 +14,19 @@ const FIRST_LIST: usize = 2;
 // The arguments of a list.
 const LIST_ARGUMENTS: usize = 3;
 
-fn main() {
-    let count = os::arg_count();
+fn main(rt: HostRuntime) -> io::Result<()> {
+    let arguments: Vec<String> = env::args(&rt)?.collect(rt.alloc())?;
+    let count = arguments.len();
     let named = std::num::wrapping_sub_usize(count, FIRST_LIST);
     if count <= FIRST_LIST {
-        io::write_all(
-            STDERR_FILENO,
-            b"figures: the arguments are HEADER and, for each list, PAGE_LIST ENTRIES FILE_LENGTH\n",
-        );
+        eprintln!(rt;
+            "figures: the arguments are HEADER and, for each list, PAGE_LIST ENTRIES FILE_LENGTH"
+        )
     } else if named % LIST_ARGUMENTS != 0 {
-        io::write_all(
-            STDERR_FILENO,
-            b"figures: each PAGE_LIST is followed by ENTRIES and FILE_LENGTH\n",
-        );
+        eprintln!(rt; "figures: each PAGE_LIST is followed by ENTRIES and FILE_LENGTH")
     } else if lists::MOST_LISTS < named / LIST_ARGUMENTS {
-        io::write_all(
-            STDERR_FILENO,
-            b"figures: more than 1024 lists: a report takes no more\n",
-        );
+        eprintln!(rt; "figures: more than 1024 lists: a report takes no more")
     } else {
-        lists::report(named / LIST_ARGUMENTS);
+        lists::report(&rt, &arguments, named / LIST_ARGUMENTS)
     }
 }

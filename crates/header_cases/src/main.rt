@@ -1,33 +1,24 @@
 // Prints, for each file that an argument names, its name and what is printed for a header with its bytes.
 #![tactic(auto)]
 
-use libc::STDOUT_FILENO;
+use std::rt::Files;
+use std::{env, io};
 
-// The file that argument number `i` names.
-fn show(i: usize) {
-    let mut name = io::buffer();
-    let length = os::arg(i, &mut name);
-    let fd = os::open_read(&name[..length]);
-    if fd < 0 {
-        os::fail(&name[..length]);
-        return;
+fn main(rt: HostRuntime) -> io::Result<()> {
+    for name in env::args(&rt)?.skip(1) {
+        show(&rt, name.as_str())?;
     }
+    Ok(())
+}
+
+// The file of this name.
+fn show<R: Files + Print>(rt: &R, name: &str) -> io::Result<()> {
+    // One byte more than a header may have, so that a longer file shows.
     let mut input = [0u8; report::MOST_BYTES + 1];
-    let count = io::read_full(fd, &mut input);
-    libc::close(fd);
+    let count = cases::read_case(rt, name, &mut input)?;
     let line = report::check_header(&input[..count]);
     let bytes = line.bytes;
     let len = line.len;
-    io::write_all(STDOUT_FILENO, &name[..length]);
-    io::write_all(STDOUT_FILENO, b": ");
-    io::write_all(STDOUT_FILENO, &bytes[..len]);
-}
-
-fn main() {
-    let count = os::arg_count();
-    let mut i = 1;
-    while i < count {
-        show(i);
-        i += 1;
-    }
+    print!(rt; " ")?;
+    rt.write_all(&bytes[..len])
 }
