@@ -61,10 +61,7 @@ pub fn fit(words: u64, table: &[u64]) -> usize
     ensures prefix_len { IsPrefixLen result table.now }
     ensures value { result ≡ min words (length table.now) }
 {
-    if words < table.len() as u64 {
-        return words as usize;
-    }
-    table.len()
+    words.min(table.len() as u64) as usize
 }
 
 // So many bytes are lent, likewise.
@@ -72,10 +69,7 @@ pub fn fit_bytes(count: u64, bytes: &[u8]) -> usize
     ensures prefix_len { IsPrefixLen result bytes.now }
     ensures value { result ≡ min count (length bytes.now) }
 {
-    if count < bytes.len() as u64 {
-        return count as usize;
-    }
-    bytes.len()
+    count.min(bytes.len() as u64) as usize
 }
 
 // A refusal's envelope and number; or the words of the result, those from `first` on before those in front of it. Answers whether the

@@ -11,7 +11,7 @@ use lib.ListN.{length, get_or, set, length-set, replicate, length-replicate, get
 use Rattle.parents.specs.Parents.{Inside, top_level, reaches, endless}
 use Rattle.chain_moves.specs.Moves.{moves, climbed}
 use Rattle.chain_moves.specs.Followed.{Followed, Known}
-use Rattle.chain_moves.specs.declared.Distance.TheVariants.{Away, Never}
+use Rattle.std.specs.Prelude.{Some, None}
 use Rattle.numbers.proofs.Choice.{clash}
 use Rattle.parents.proofs.Counting.{count_le}
 use Rattle.parents.proofs.Following.{Walk, Ends, at_set, blank, blank_less, marked_none, walk_starts, walk_goes, walk_ends, walk_loops}
@@ -84,7 +84,7 @@ module _ (parents : List ℕ) (n : ℕ) (inside : Inside parents n) (marks steps
   module _ (f count : ℕ) (w : Climbing parents marks steps n start f count) (depths : List ℕ) (known : Known parents depths n start) where
     -- the chain ends: by what is known of f
     pub climb_ends : Ends parents f → (m : ℕ) → m ≡ moves parents n f + count
-        → (Away m ≡ climbed parents n start) × (reaches parents n start ≡ true → Followed parents marks steps n (start + 1))
+        → (Some m ≡ climbed parents n start) × (reaches parents n start ≡ true → Followed parents marks steps n (start + 1))
     unfolding climbed
     climb_ends e m is =
         let r = walk_ends parents n inside marks start l₀ f w.walk e in (
@@ -104,7 +104,7 @@ module _ (parents : List ℕ) (n : ℕ) (inside : Inside parents n) (marks steps
 
     -- at a self-parented field
     pub climb_top : top_level parents f ≡ true
-        → (Away count ≡ climbed parents n start) × (reaches parents n start ≡ true → Followed parents marks steps n (start + 1))
+        → (Some count ≡ climbed parents n start) × (reaches parents n start ≡ true → Followed parents marks steps n (start + 1))
     climb_top t = climb_ends (zero, meets_here (top_level parents) parents zero f t) count (let z = moves_top parents n f t in omega arith)
 
     -- where an earlier walk has been
@@ -118,11 +118,11 @@ module _ (parents : List ℕ) (n : ℕ) (inside : Inside parents n) (marks steps
           ∙ sym (w.apart f _ w.walk.here (omega arith) ((lowest parents n start).ends known.end _ met_below))
 
       pub climb_met : (m : ℕ) → m ≡ count + (get_or depths (get_or marks f 0 - 1) 0 - get_or steps f 0)
-          → (Away m ≡ climbed parents n start) × (reaches parents n start ≡ true → Followed parents marks steps n (start + 1))
+          → (Some m ≡ climbed parents n start) × (reaches parents n start ≡ true → Followed parents marks steps n (start + 1))
       climb_met m is = climb_ends (w.walk.old f w.walk.here marked other) m (let d = met_depth in omega arith)
 
     -- where this walk has been
     pub climb_never : get_or marks f 0 ≡ start + 1
-        → (Never ≡ climbed parents n start) × (reaches parents n start ≡ true → Followed parents marks steps n (start + 1))
+        → (None ≡ climbed parents n start) × (reaches parents n start ≡ true → Followed parents marks steps n (start + 1))
     unfolding climbed
     climb_never e = let r = walk_loops parents n inside marks start l₀ f w.walk e in (rw r, λ s. clash s r)

@@ -12,7 +12,7 @@ use lib.Seq.{get_or-append-add}
 use borrow.Author.Tests.{eq-eqb, ne_eqb}
 use Rattle.numbers.proofs.Choice.{which, clash}
 use Rattle.rows.specs.Words.{most_fields}
-use Rattle.parents.specs.declared.Chains.TheVariants.{AllEnd}
+use Rattle.std.specs.Prelude.{None}
 use Rattle.parents.specs.Parents.{Inside, ancestor, meets, top_level, reaches, endless}
 use Rattle.chain_moves.specs.Moves.{moves, total_moves, all_moves, moves_of}
 use Rattle.chain_moves.specs.Distances.{TopAfter, sum_below, Rooted, chain_of, AllMovesAsDefined, AllMovesCapped, ChainsReachCap}
@@ -143,5 +143,5 @@ pub moves_front : (parents : List ℕ) (n : ℕ) (ys : List ℕ) → n ≤ most_
 unfolding moves_of all_moves
 moves_front parents n ys few same count rooted =
     let inner : Inside ys n = λ f l. let r = rooted.fields f (omega arith) in omega arith in
-    let ends : endless ys n n ≡ AllEnd = rw count at ((all_reach_iff ys (length ys)).0 rooted.ends) in
+    let ends : endless ys n n ≡ None = rw count at ((all_reach_iff ys (length ys)).0 rooted.ends) in
     rw (inside_front parents n ys few same count inner, same, ends, count)

@@ -11,8 +11,7 @@ use Rattle.numbers.proofs.Choice.{clash}
 use Rattle.parents.specs.Parents.{Inside, reaches, endless}
 use Rattle.chain_moves.specs.Moves.{moves, total_moves, moves_where, climbed}
 use Rattle.chain_moves.specs.Followed.{Followed, Known}
-use Rattle.chain_moves.specs.declared.Distance.{Distance}
-use Rattle.chain_moves.specs.declared.Distance.TheVariants.{Away, Never}
+use Rattle.std.specs.Prelude.{Option, Some, None}
 use Rattle.parents.proofs.Following.{at_set}
 use Rattle.parents.proofs.EndlessLaws.{endless_more, endless_found, endless_take}
 use Rattle.chain_moves.proofs.MovesLaws.{total_more, total_take}
@@ -25,29 +24,29 @@ pub record Summing (parents marks steps depths : List ℕ) (n f total : ℕ) : T
   pub known : Known parents depths n f
   pub is : total ≡ total_moves parents n f
 
-abbrev how_far : Distance → ℕ
-how_far (Away m) = m
-how_far Never = 0
+abbrev how_far : Option ℕ → ℕ
+how_far (Some m) = m
+how_far None = 0
 
-abbrev ended : Distance → Bool
-ended (Away m) = true
-ended Never = false
+abbrev ended : Option ℕ → Bool
+ended (Some m) = true
+ended None = false
 
 -- what a distance says of the chain
 module _ (parents : List ℕ) (n f : ℕ) where
-  pub away_is : (m : ℕ) → Away m ≡ climbed parents n f → (reaches parents n f ≡ true) × (m ≡ moves parents n f)
+  pub away_is : (m : ℕ) → Some m ≡ climbed parents n f → (reaches parents n f ≡ true) × (m ≡ moves parents n f)
   unfolding climbed
   away_is m = by (reaches parents n f)
     where
-      by : (b : Bool) → Away m ≡ pick b (Away (moves parents n f)) Never → (b ≡ true) × (m ≡ moves parents n f)
+      by : (b : Bool) → Some m ≡ pick b (Some (moves parents n f)) None → (b ≡ true) × (m ≡ moves parents n f)
       by true e = (refl, ap how_far e)
       by false e = clash refl (ap ended e)
 
-  pub never_is : Never ≡ climbed parents n f → reaches parents n f ≡ false
+  pub never_is : None ≡ climbed parents n f → reaches parents n f ≡ false
   unfolding climbed
   never_is = by (reaches parents n f)
     where
-      by : (b : Bool) → Never ≡ pick b (Away (moves parents n f)) Never → b ≡ false
+      by : (b : Bool) → None ≡ pick b (Some (moves parents n f)) None → b ≡ false
       by true e = sym (ap ended e)
       by false e = refl
 
@@ -57,7 +56,7 @@ module _ (parents : List ℕ) (n : ℕ) where
   sum_starts m h = record { below = omega arith; followed = followed_none parents n m h; known = known_none parents n m h; is = refl }
 
   module _ (inside : Inside parents n) (marks steps depths : List ℕ) (f total : ℕ) (s : Summing parents marks steps depths n f total) where
-    pub sum_goes : f < n → (m : ℕ) → Away m ≡ climbed parents n f → (marks' steps' : List ℕ)
+    pub sum_goes : f < n → (m : ℕ) → Some m ≡ climbed parents n f → (marks' steps' : List ℕ)
         → (reaches parents n f ≡ true → Followed parents marks' steps' n (f + 1)) → Summing parents marks' steps' (set depths f m) n (f + 1) (total + m)
     sum_goes l m e marks' steps' next =
         let (r, is) = away_is parents n f m e in
@@ -77,7 +76,7 @@ module _ (parents : List ℕ) (n : ℕ) where
           is = let t = total_more parents n f in let i = s.is in omega arith;
         }
 
-    pub sum_never : f < n → Never ≡ climbed parents n f → 0 ≡ moves_where (total_moves (take n parents) n n) (endless (take n parents) n n)
+    pub sum_never : f < n → None ≡ climbed parents n f → 0 ≡ moves_where (total_moves (take n parents) n n) (endless (take n parents) n n)
     sum_never l e =
         let r = sym (endless_take parents n inside n (omega arith)) ∙ endless_found parents n f n s.known.end (never_is parents n f e) l in
         rw r

@@ -1,8 +1,7 @@
 -- What is known of the chains that have been followed, while their moves are counted.
-use Rattle.std.specs.Prelude.{ℕ, ◌+◌, ◌<◌, ◌≤◌, List, ◌≡◌, length, get_or}
+use Rattle.std.specs.Prelude.{ℕ, ◌+◌, ◌<◌, ◌≤◌, List, ◌≡◌, length, get_or, None}
 use Rattle.parents.specs.Parents.{endless}
 use Rattle.parents.specs.Marks.{Marked}
-use Rattle.parents.specs.declared.Chains.TheVariants.{AllEnd}
 use Rattle.chain_moves.specs.Moves.{moves}
 
 -- after the chains from the fields below s, with their moves: each field that has been followed is marked with one more than the number of
@@ -15,5 +14,5 @@ pub record Followed (parents marks steps : List ℕ) (n s : ℕ) : Type 0 where
 -- each chain from a field below s ends, and the moves of it are known
 pub record Known (parents depths : List ℕ) (n s : ℕ) : Type 0 where
   pub long : n ≤ length depths
-  pub end : endless parents n s ≡ AllEnd
+  pub end : endless parents n s ≡ None
   pub depth : (t : ℕ) → t < s → get_or depths t 0 ≡ moves parents n t

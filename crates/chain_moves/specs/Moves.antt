@@ -1,11 +1,8 @@
 -- How many moves, from a field to its parent and so on, the self-parented field of each chain is away.
-use Rattle.std.specs.Prelude.{ℕ, zero, suc, ◌+◌, List, length, get_or, take}
+use Rattle.std.specs.Prelude.{ℕ, zero, suc, ◌+◌, List, length, get_or, take, Option, Some, None}
 use Rattle.numbers.specs.Choice.{pick}
 use Rattle.parents.specs.Parents.{inside, top_level, reaches, endless}
-use Rattle.parents.specs.declared.Chains.{Chains}
-use Rattle.parents.specs.declared.Chains.TheVariants.{AllEnd, Endless}
-use Rattle.chain_moves.specs.declared.Distance.{Distance}
-use Rattle.chain_moves.specs.declared.Distance.TheVariants.{Away, Never}
+use Rattle.rows.specs.declared.FieldNumber.{FieldNumber}
 
 -- how many moves from f its self-parented field is away, counted up to k
 unfoldable pub moves : List ℕ → ℕ → ℕ → ℕ
@@ -22,14 +19,14 @@ unfoldable pub all_moves : List ℕ → ℕ
 all_moves parents = total_moves parents (length parents) (length parents)
 
 -- the sum where every chain ends
-abbrev pub moves_where : ℕ → Chains → ℕ
-moves_where total AllEnd = total
-moves_where total (Endless f) = 0
+abbrev pub moves_where : ℕ → Option FieldNumber → ℕ
+moves_where total None = total
+moves_where total (Some f) = 0
 
 -- the moves of the first n of some parents; 0 where a chain never ends or a parent is none of the n fields
 unfoldable pub moves_of : List ℕ → ℕ → ℕ
 moves_of parents n = pick (inside parents n) (moves_where (total_moves (take n parents) n n) (endless (take n parents) n n)) 0
 
 -- what the chain from f says among n fields
-unfoldable pub climbed : List ℕ → ℕ → ℕ → Distance
-climbed parents n f = pick (reaches parents n f) (Away (moves parents n f)) Never
+unfoldable pub climbed : List ℕ → ℕ → ℕ → Option ℕ
+climbed parents n f = pick (reaches parents n f) (Some (moves parents n f)) None

@@ -9,13 +9,6 @@ ghost use Rattle.chain_moves.specs.Followed.{Followed, Known};
 
 use rows::FieldNumber;
 
-// How many moves from a field its self-parented field is away, or that its chain never ends.
-#[derive(Clone, Copy)]
-pub enum Distance {
-    Away(u16),
-    Never,
-}
-
 // The sum of the moves from each of the first n fields, whose parents are these, to its self-parented field. 0 where a chain never ends, or
 // a parent is none of the n fields.
 pub fn total_moves(parents: &[u16], n: usize) -> usize
@@ -37,30 +30,18 @@ fn sum_of_moves(parents: &[u16], n: usize) -> usize
     let mut steps = [0u16; rows::MOST_FIELDS];
     let mut depths = [0u16; rows::MOST_FIELDS];
     let mut total = 0;
-    let mut f = 0;
-    while f < n {
-        match climb(
-            parents,
-            &mut marks,
-            &mut steps,
-            &depths,
-            n,
-            FieldNumber(f as u64),
-        ) {
-            Distance::Away(moves) => {
-                depths[f] = moves;
-                total += moves as usize;
-                f += 1;
-            }
-            Distance::Never => {
-                return 0;
-            }
-        }
+    for f in 0..n {
+        let start = FieldNumber(f as u64);
+        let Some(moves) = climb(parents, &mut marks, &mut steps, &depths, n, start) else {
+            return 0;
+        };
+        depths[f] = moves;
+        total += moves as usize;
     }
     total
 }
 
-// The moves along the chain from `start`. Each field that is followed is marked with start + 1, and has in `steps` its distance from the
+// The moves along the chain from `start`, None where it never ends. Each field that is followed is marked with start + 1, and has in `steps` its distance from the
 // start; where an earlier walk has been, `depths` has the moves from the start of that walk, and nothing is followed again.
 fn climb(
     parents: &[u16],
@@ -69,7 +50,7 @@ fn climb(
     depths: &[u16; rows::MOST_FIELDS],
     n: usize,
     start: FieldNumber,
-) -> Distance
+) -> Option<u16>
     requires n_le_most_fields { (n ≤ most_fields) × (start.0 < n) × (n ≤ length parents.now) }
     requires inside { Inside parents.now n }
     requires followed { Followed parents.now marks.old steps.old n start.0 }
@@ -83,15 +64,15 @@ fn climb(
     loop {
         let up = parents[f] as usize;
         if up == f {
-            return Distance::Away(count);
+            return Some(count);
         }
         let mark = marks[f];
         if mark == stamp {
-            return Distance::Never;
+            return None;
         }
         if mark != 0 {
             let depth = depths[mark as usize - 1];
-            return Distance::Away(count + (depth - steps[f]));
+            return Some(count + (depth - steps[f]));
         }
         marks[f] = stamp;
         steps[f] = count;

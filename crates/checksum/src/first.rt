@@ -7,10 +7,8 @@ pub fn first(bytes: &[u8], count: usize) -> u32
     ensures { fold result (drop count bytes.now) ≡ fold 0xFFFFFFFF bytes.now }
 {
     let mut c: u32 = 0xFFFFFFFF;
-    let mut i = 0;
-    while i < count {
-        c = crc_register::byte(c, bytes[i]);
-        i += 1;
+    for b in &bytes[..count] {
+        c = crc_register::byte(c, *b);
     }
     c
 }

@@ -44,10 +44,8 @@ fn many(bytes: &[u8], words: usize, start: Wide) -> Wide
     ensures { finish (min words 5) bytes.now result ≡ finish words bytes.now start }
 {
     let mut s = start;
-    let mut left = words;
-    while 5 < left {
+    for left in (6..=words).rev() {
         s = next(bytes, left, s);
-        left -= 1;
     }
     s
 }

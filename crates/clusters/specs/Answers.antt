@@ -5,12 +5,6 @@ use Rattle.numbers.specs.Numbers.{little_in}
 use Rattle.wire.specs.Reading.{Step, found, refused}
 use Rattle.rows.specs.Words.{no_checksum}
 use Rattle.rows.specs.declared.ClusterRow.{ClusterRow}
-use Rattle.clusters.specs.declared.ClusterStep.{ClusterStep}
-use Rattle.clusters.specs.declared.ClusterStep.TheVariants.{Found, Refused}
-
-abbrev pub cluster_step : ClusterStep → Step ClusterRow
-cluster_step (Found a p) = found a p
-cluster_step (Refused f) = refused f
 
 -- the checksum of a page list that stands at a place, where it is carried
 unfoldable pub checksum_at : Bool → List ℕ → ℕ → ℕ

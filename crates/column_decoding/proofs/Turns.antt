@@ -8,7 +8,7 @@ use native.Mathlib.Numerals.{add-one}
 use native.Mathlib.Omega.{arith}
 use lib.Dec.{eqb}
 use lib.ListN.{length, get_or, take, drop}
-use borrow.Author.Tests.{le-leb, lt-leb}
+use borrow.Author.Tests.{le-leb, lt-leb, eq-eqb}
 use Rattle.numbers.specs.Numbers.{trailer}
 use Rattle.outcome.specs.Outcome.{Outcome, is_accepted}
 use Rattle.rows.specs.Tables.{rows_in}
@@ -27,6 +27,15 @@ verdict_inside file p behind r e v = ap (λ (x : ℕ). eqb x 0) (v ∙ ap (λ (b
 
 pub inside_within : (file : List ℕ) (p : ColumnPage) (behind : ℕ) → behind ≡ trailer p.checksum → inside file p ≡ true → p.offset + p.size + behind ≤ length file
 inside_within file p behind e h = rw e (inside_ends file p h)
+
+-- where the verdict is 0, the page and its checksum are in the file part
+pub is_inside : (file : List ℕ) (p : ColumnPage) (behind r : ℕ) → behind ≡ trailer p.checksum → r ≡ in_file (length file) p.size behind p.offset → r ≡ 0
+    → inside file p ≡ true
+is_inside file p behind r e v z = sym (verdict_inside file p behind r e v) ∙ eq-eqb r 0 z
+
+pub is_within : (file : List ℕ) (p : ColumnPage) (behind r : ℕ) → behind ≡ trailer p.checksum → r ≡ in_file (length file) p.size behind p.offset → r ≡ 0
+    → p.offset + p.size + behind ≤ length file
+is_within file p behind r e v z = inside_within file p behind e (is_inside file p behind r e v z)
 
 pub part_is : (file : List ℕ) (p : ColumnPage) (behind : ℕ) → behind ≡ trailer p.checksum → take (p.offset + p.size + behind - p.offset) (drop p.offset file) ≡ page_bytes file p
 part_is file p behind e =

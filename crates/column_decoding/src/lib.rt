@@ -23,12 +23,10 @@ pub fn decode_column(column_type: u16, pages: &[u64], file: &[u8], out: &mut [u6
     let width = column_type::width_of(t);
     let marks = column_type::marks_of(t);
     let mut start = 0;
-    let mut i = 0;
-    while i < count {
+    for i in 0..count {
         match decode_one(width, marks, page_at(pages, i), file, out, start) {
             PageAnswer::Accepted(elements) => {
                 start += elements;
-                i += 1;
             }
             PageAnswer::Refused(number) => {
                 return ColumnAnswer::Refused(number, i);
@@ -54,6 +52,7 @@ fn page_at(pages: &[u64], i: usize) -> ColumnPage
 
 // One page, into the lent words from `start` on. A page whose bytes are not all in the file part is refused; for any other it is the single
 // call that decides.
+#[tactic(auto, using(crate::proofs::Turns::is_within))]
 fn decode_one(
     width: u64,
     marks: u8,

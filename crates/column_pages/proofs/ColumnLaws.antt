@@ -11,9 +11,9 @@ use Rattle.numbers.specs.Rows.{over}
 use Rattle.wire.specs.declared.Fault.{Fault}
 use Rattle.frames.specs.declared.ListHead.{ListHead}
 use Rattle.wire.specs.Reading.{Step, found, refused, accepted, rows_of, in_item, fault, unless}
-use Rattle.wire.specs.Answers.{number_step}
+use Rattle.wire.specs.Answers.{as_step}
 use Rattle.wire.specs.declared.Kind.TheVariants.{Spare}
-use Rattle.wire.specs.declared.NumberStep.TheVariants.{Found}
+use Rattle.std.specs.Prelude.{Ok}
 use Rattle.wire.proofs.Laws.{never, passed}
 use Rattle.envelope.specs.Envelope.{whole}
 use Rattle.frames.specs.Frames.{list_of, list_head, list_count, list_stop, spare, closed, closed_by, items}
@@ -48,7 +48,7 @@ count_passes n k z =
 
 -- what the end of a frame makes of sums
 module _ (mark : Fault → Fault) (strict : Bool) (stop : ℕ) where
-  pub sums_closed : (x : Step (List (List PageRow))) {c p : ℕ} → found c p ≡ closed_by mark strict stop (number_step (sums_of x).pages)
+  pub sums_closed : (x : Step (List (List PageRow))) {c p : ℕ} → found c p ≡ closed_by mark strict stop (as_step (sums_of x).pages)
       → (closed_by mark strict stop x ≡ found (rows_of x) p) × (c ≡ pages_of (rows_of x)) × ((sums_of x).elements ≡ over (map elements_of (rows_of x)) (replicate most_columns 0))
   sums_closed (found pss q) {c} {p} e = by (spare strict q stop) e
     where
@@ -58,7 +58,7 @@ module _ (mark : Fault → Fault) (strict : Bool) (stop : ℕ) where
       by false g = let same : p ≡ stop = cc in let count : c ≡ pages_of pss = cc in (ap (found pss) (sym same), count, refl)
   sums_closed (refused f) e = never (sym e)
 
-  pub sums_refused : (x : Step (List (List PageRow))) {f : Fault} → refused f ≡ closed_by mark strict stop (number_step (sums_of x).pages) → closed_by mark strict stop x ≡ refused f
+  pub sums_refused : (x : Step (List (List PageRow))) {f : Fault} → refused f ≡ closed_by mark strict stop (as_step (sums_of x).pages) → closed_by mark strict stop x ≡ refused f
   sums_refused (found pss q) {f} e = by (spare strict q stop) e
     where
       by : (b : Bool) → refused f ≡ pick {A = Step ℕ} b (refused (mark (fault 11 Spare q))) (found (pages_of pss) stop) → pick b (refused (mark (fault 11 Spare q))) (found pss stop) ≡ refused f
@@ -93,21 +93,21 @@ module _ (strict : Bool) (file : ℕ) (table : List ℕ) (n : ℕ) (s : List ℕ
         (k.0, ap rows_of payload_cut ∙ k.1)
 
     -- what a scan of the items says, with the end of the list and that of the payload
-    pub payload_read : {r : Sums} {c p q : ℕ} → r ≡ sums_of (column_items t strict 4 h table file) → found c p ≡ closed_by (in_item 4 h.count) strict stop (number_step r.pages)
+    pub payload_read : {r : Sums} {c p q : ℕ} → r ≡ sums_of (column_items t strict 4 h table file) → found c p ≡ closed_by (in_item 4 h.count) strict stop (as_step r.pages)
         → ◌≡◌ {A = Step (Unit {0})} (found tt q) (closed strict (length s) (found tt p))
-        → record { pages = Found c q; elements = r.elements } ≡ sums_of (whole strict (payload file (bits_in table n) strict) s 4)
+        → record { pages = Ok (c, q); elements = r.elements } ≡ sums_of (whole strict (payload file (bits_in table n) strict) s 4)
     payload_read {r} {c} {p} {q} is e g =
         let k = sums_closed (in_item 4 h.count) strict stop (column_items t strict 4 h table file) (rw is at e) in
         let end = ended (λ f. f) strict p (length s) (rows_of (column_items t strict 4 h table file)) g in
-        (λ j. record { pages = Found (k.1 j) q; elements = (ap (λ (x : Sums). x.elements) is ∙ k.2) j }) ∙ sym (ap sums_of (ap (closed strict (length s)) (payload_cut ∙ k.0) ∙ end))
+        (λ j. record { pages = Ok (k.1 j, q); elements = (ap (λ (x : Sums). x.elements) is ∙ k.2) j }) ∙ sym (ap sums_of (ap (closed strict (length s)) (payload_cut ∙ k.0) ∙ end))
 
-    pub payload_spare : {r : Sums} {c p : ℕ} {f : Fault} → r ≡ sums_of (column_items t strict 4 h table file) → found c p ≡ closed_by (in_item 4 h.count) strict stop (number_step r.pages)
+    pub payload_spare : {r : Sums} {c p : ℕ} {f : Fault} → r ≡ sums_of (column_items t strict 4 h table file) → found c p ≡ closed_by (in_item 4 h.count) strict stop (as_step r.pages)
         → ◌≡◌ {A = Step (Unit {0})} (refused f) (closed strict (length s) (found tt p)) → whole strict (payload file (bits_in table n) strict) s 4 ≡ refused f
     payload_spare {r} {c} {p} is e g =
         let k = sums_closed (in_item 4 h.count) strict stop (column_items t strict 4 h table file) (rw is at e) in
         ap (closed strict (length s)) (payload_cut ∙ k.0) ∙ spared (λ f. f) strict p (length s) (rows_of (column_items t strict 4 h table file)) g
 
-    pub payload_fault : {r : Sums} {f : Fault} → r ≡ sums_of (column_items t strict 4 h table file) → refused f ≡ closed_by (in_item 4 h.count) strict stop (number_step r.pages)
+    pub payload_fault : {r : Sums} {f : Fault} → r ≡ sums_of (column_items t strict 4 h table file) → refused f ≡ closed_by (in_item 4 h.count) strict stop (as_step r.pages)
         → whole strict (payload file (bits_in table n) strict) s 4 ≡ refused f
     payload_fault is e = ap (closed strict (length s)) (payload_cut ∙ sums_refused (in_item 4 h.count) strict stop (column_items t strict 4 h table file) (rw is at e))
 

@@ -8,7 +8,7 @@ use lib.ListN.{length, get_or, set, replicate}
 use Rattle.numbers.specs.Rows.{over}
 use Rattle.wire.specs.declared.Fault.{Fault}
 use Rattle.wire.specs.Reading.{found, refused, mapped, in_item}
-use Rattle.wire.specs.declared.NumberStep.TheVariants.{Found}
+use Rattle.std.specs.Prelude.{Ok}
 use Rattle.frames.specs.Frames.{items}
 use Rattle.wire.proofs.Laws.{Mapped, mapped_found, mapped_refused}
 use Rattle.frames.proofs.Loops.{Reached, reached_none, reached_more, reached_refused, reached_all, list_passed}
@@ -79,7 +79,7 @@ module _ {strict : Bool} {file : ℕ} {table : List ℕ} {list n : ℕ} {s : Lis
     scanned_refused e = reached_refused m.reached h (next ∙ mapped_refused tally_of (pages strict file i ((column_row table i).bits % 2 ^ 16) total s at) e)
 
   module _ {i at total : ℕ} {sums : List ℕ} (m : Scanned strict file table list n s start i at total sums) (h : n ≤ i) where
-    pub scanned_all : record { pages = Found total at; elements = sums } ≡ sums_of (items list (pages_after strict file (bits_in table n)) n [] s start)
+    pub scanned_all : record { pages = Ok (total, at); elements = sums } ≡ sums_of (items list (pages_after strict file (bits_in table n)) n [] s start)
     scanned_all =
         let held : sums ≡ over (map elements_of m.reached.done) (replicate most_columns 0) = rw (← flat_one elements_of 0 m.reached.done) m.holds.rows in
-        rw (reached_all m.reached h) (λ j. record { pages = Found (m.sum j) at; elements = held j })
+        rw (reached_all m.reached h) (λ j. record { pages = Ok (m.sum j, at); elements = held j })

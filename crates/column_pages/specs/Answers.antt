@@ -1,8 +1,7 @@
 -- What the passes over all columns take, and what they leave.
-use Rattle.std.specs.Prelude.{ℕ, ◌%◌, ◌^◌, List, [], map, Bool, replicate}
+use Rattle.std.specs.Prelude.{ℕ, ◌%◌, ◌^◌, List, [], map, Bool, replicate, Ok, Err}
 use Rattle.numbers.specs.Rows.{over}
 use Rattle.wire.specs.Reading.{Step, found, refused}
-use Rattle.wire.specs.declared.NumberStep.TheVariants.{Found, Refused}
 use Rattle.frames.specs.Frames.{items}
 use Rattle.frames.specs.declared.ListHead.{ListHead}
 use Rattle.rows.specs.Words.{most_columns}
@@ -23,5 +22,5 @@ column_items s strict list h table file = items list (pages_after strict file (b
 
 -- how many pages there are and the place after them, and how many elements each column has, or a refusal
 abbrev pub sums_of : Step (List (List PageRow)) → Sums
-sums_of (found pss p) = record { pages = Found (pages_of pss) p; elements = over (map elements_of pss) (replicate most_columns 0) }
-sums_of (refused f) = record { pages = Refused f; elements = replicate most_columns 0 }
+sums_of (found pss p) = record { pages = Ok (pages_of pss, p); elements = over (map elements_of pss) (replicate most_columns 0) }
+sums_of (refused f) = record { pages = Err f; elements = replicate most_columns 0 }

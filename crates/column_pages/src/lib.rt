@@ -3,23 +3,22 @@
 
 ghost use Rattle.std.specs.Prelude.{◌≡◌, ◌≤◌};
 ghost use Rattle.wire.specs.Reading.{refused};
+ghost use Rattle.wire.specs.Answers.{as_step};
 ghost use Rattle.rows.specs.Words.{most_columns};
 ghost use Rattle.frames.specs.Frames.{list_head};
-ghost use Rattle.frames.specs.Answers.{list_step};
 ghost use Rattle.envelope.specs.Envelope.{whole};
 ghost use Rattle.column_pages.specs.ColumnPages.{per_column, payload};
 ghost use Rattle.column_pages.specs.Answers.{bits_in, column_items, sums_of};
 
-use frames::{ListHead, ListStep};
-use pages::TallyStep;
+use frames::ListHead;
 use rows::ColumnNumber;
-use wire::{Fault, NumberStep, PlaceStep};
+use wire::{Fault, Step};
 
 // How many pages all columns have, and the place after them, or a refusal; and how many elements the pages of each column
 // have, zeros where they are refused.
 #[derive(Clone, Copy)]
 pub struct Sums {
-    pub pages: NumberStep,
+    pub pages: Step<u64>,
     pub elements: [u64; rows::MOST_COLUMNS],
 }
 
@@ -28,7 +27,7 @@ fn no_sums(f: Fault) -> Sums
     ensures { result ≡ sums_of (refused f) }
 {
     Sums {
-        pages: NumberStep::Refused(f),
+        pages: Err(f),
         elements: [0u64; rows::MOST_COLUMNS],
     }
 }
@@ -48,26 +47,22 @@ fn scan_columns(
     let count = head.count;
     let mut elements = [0u64; rows::MOST_COLUMNS];
     let mut total: usize = 0;
-    let mut i = 0;
     let mut at = head.start;
-    while i < count {
+    for i in 0..count {
         let column = ColumnNumber(i as u64);
         let row = column_rows::column_row(columns, column);
         let bits = (row.bits % 65536) as u16;
         match pages::scan_page_list(s, strict, at, column, bits, file, total) {
-            TallyStep::Found(tally, next) => {
+            Ok((tally, next)) => {
                 elements[i] = tally.elements;
                 total += tally.pages;
                 at = next;
-                i += 1;
             }
-            TallyStep::Refused(f) => {
-                return no_sums(wire::fault_in_item(list, i, f));
-            }
+            Err(f) => return no_sums(wire::fault_in_item(list, i, f)),
         }
     }
     Sums {
-        pages: NumberStep::Found(total as u64, at),
+        pages: Ok((total as u64, at)),
         elements,
     }
 }
@@ -86,18 +81,11 @@ fn per_column(columns: usize, n: usize) -> u16
 }
 
 // The head of a payload's list, where there are so many columns.
-pub fn column_list_head(s: &[u8], n: usize) -> ListStep
-    ensures { list_step result ≡ list_head (per_column n) s.now 4 }
+pub fn column_list_head(s: &[u8], n: usize) -> Step<ListHead>
+    ensures { as_step result ≡ list_head (per_column n) s.now 4 }
 {
-    match list_frames::list_head(s, 4) {
-        ListStep::Found(head, stop) => list_frames::judge_count(
-            head,
-            4,
-            stop,
-            per_column(n, head.count),
-        ),
-        ListStep::Refused(f) => ListStep::Refused(f),
-    }
+    let (head, stop) = list_frames::list_head(s, 4)?;
+    list_frames::judge_count(head, 4, stop, per_column(n, head.count))
 }
 
 // The verdict on a payload, to its end, beside the first n columns of a table.
@@ -105,23 +93,23 @@ pub fn scan_payload(s: &[u8], strict: bool, columns: &[u64], n: usize, file: u64
     ensures { result ≡ sums_of (whole strict (payload file (bits_in columns.now n) strict) s.now 4) }
 {
     match column_list_head(s, n) {
-        ListStep::Found(head, stop) => {
+        Ok((head, stop)) => {
             let sums = scan_columns(frames::up_to(s, stop), strict, 4, head, columns, file);
             let pages = sums.pages;
             let elements = sums.elements;
             match list_frames::close_list(pages, strict, 4, head.count, stop) {
-                NumberStep::Found(count, past) => {
+                Ok((count, past)) => {
                     match frames::close_frame(strict, past, s.len()) {
-                        PlaceStep::Found(next) => Sums {
-                            pages: NumberStep::Found(count, next),
+                        Ok(next) => Sums {
+                            pages: Ok((count, next)),
                             elements,
                         },
-                        PlaceStep::Refused(f) => no_sums(f),
+                        Err(f) => no_sums(f),
                     }
                 }
-                NumberStep::Refused(f) => no_sums(f),
+                Err(f) => no_sums(f),
             }
         }
-        ListStep::Refused(f) => no_sums(f),
+        Err(f) => no_sums(f),
     }
 }

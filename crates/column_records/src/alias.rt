@@ -1,14 +1,12 @@
 // An alias's content.
 ghost use Rattle.std.specs.Prelude.{◌≡◌};
 ghost use Rattle.wire.specs.Reading.{tested};
-ghost use Rattle.wire.specs.Answers.{number_step};
+ghost use Rattle.wire.specs.Answers.{as_step};
 ghost use Rattle.records.specs.Records.{aliasable, alias};
-ghost use Rattle.column_records.specs.Answers.{alias_step};
 
-use super::AliasStep;
 use records::tested;
 use rows::{AliasRow, ColumnNumber, FieldNumber};
-use wire::NumberStep;
+use wire::Step;
 
 // The verdict on an alias's field: below the count of fields, and one that has the alias flag; `flags` has the flags of each field.
 fn aliasable(flags: &[u64], field: FieldNumber) -> u16
@@ -24,33 +22,25 @@ fn aliasable(flags: &[u64], field: FieldNumber) -> u16
     14
 }
 
-fn field_at(s: &[u8], at: usize, flags: &[u64]) -> NumberStep
-    ensures { number_step result ≡ tested 4 (aliasable flags.now) s.now at }
+fn field_at(s: &[u8], at: usize, flags: &[u64]) -> Step<u64>
+    ensures { as_step result ≡ tested 4 (aliasable flags.now) s.now at }
 {
-    match wire::number_4(s, at) {
-        NumberStep::Found(field, next) => {
-            let verdict = aliasable(flags, FieldNumber(field));
-            wire::judge(field, at, next, verdict)
-        }
-        NumberStep::Refused(f) => NumberStep::Refused(f),
-    }
+    let (field, next) = wire::number_4(s, at)?;
+    let verdict = aliasable(flags, FieldNumber(field));
+    wire::judge(field, at, next, verdict)
 }
 
 // An alias's content: a physical column, one of `columns`, and a field that has the alias flag.
-pub fn alias_at(s: &[u8], at: usize, flags: &[u64], columns: u64) -> AliasStep
-    ensures { alias_step result ≡ alias flags.now columns s.now at }
+pub fn alias_at(s: &[u8], at: usize, flags: &[u64], columns: u64) -> Step<AliasRow>
+    ensures { as_step result ≡ alias flags.now columns s.now at }
 {
-    match tested::number_below(s, at, columns) {
-        NumberStep::Found(column, field_place) => match field_at(s, field_place, flags) {
-            NumberStep::Found(field, next) => AliasStep::Found(
-                AliasRow {
-                    column: ColumnNumber(column),
-                    field: FieldNumber(field),
-                },
-                next,
-            ),
-            NumberStep::Refused(f) => AliasStep::Refused(f),
+    let (column, field_place) = tested::number_below(s, at, columns)?;
+    let (field, next) = field_at(s, field_place, flags)?;
+    Ok((
+        AliasRow {
+            column: ColumnNumber(column),
+            field: FieldNumber(field),
         },
-        NumberStep::Refused(f) => AliasStep::Refused(f),
-    }
+        next,
+    ))
 }

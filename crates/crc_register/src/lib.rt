@@ -5,6 +5,7 @@ ghost use Rattle.std.specs.Prelude.{◌≡◌};
 ghost use Rattle.crc_register.specs.Register.{shifted, bits, byte};
 
 // The register after one bit, and after the eight bits of a byte.
+#[tactic(auto, unfolding(crate::specs::Register::shifted))]
 fn shifted(c: u32) -> u32
     ensures { result ≡ shifted c }
 {
@@ -18,10 +19,8 @@ pub fn byte(c: u32, b: u8) -> u32
     ensures { result ≡ byte c b }
 {
     let mut x = c ^ (b as u32);
-    let mut k: u32 = 0;
-    while k < 8 {
+    for _ in 0..8u32 {
         x = shifted(x);
-        k += 1;
     }
     x
 }

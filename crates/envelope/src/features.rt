@@ -1,10 +1,10 @@
 // Feature words.
 ghost use Rattle.std.specs.Prelude.{◌≡◌, length};
 ghost use Rattle.wire.specs.Reading.{tested};
-ghost use Rattle.wire.specs.Answers.{number_step, place_step};
+ghost use Rattle.wire.specs.Answers.{as_step, place_step};
 ghost use Rattle.envelope.specs.Features.{feature_bits, features};
 
-use wire::{Kind, NumberStep, PlaceStep};
+use wire::{Fault, Kind, Step};
 
 // The verdict on a feature word: no bit but 63 is set.
 fn feature_bits(word: u64) -> u16
@@ -16,34 +16,24 @@ fn feature_bits(word: u64) -> u16
     6
 }
 
-fn feature_word(s: &[u8], at: usize) -> NumberStep
-    ensures { number_step result ≡ tested 8 feature_bits s.now at }
+fn feature_word(s: &[u8], at: usize) -> Step<u64>
+    ensures { as_step result ≡ tested 8 feature_bits s.now at }
 {
-    match wire::number_8(s, at) {
-        NumberStep::Found(word, next) => wire::judge(word, at, next, feature_bits(word)),
-        NumberStep::Refused(f) => NumberStep::Refused(f),
-    }
+    let (word, next) = wire::number_8(s, at)?;
+    wire::judge(word, at, next, feature_bits(word))
 }
 
 // The feature words: the place after them. No more words than bytes can follow each other.
-pub fn features_at(s: &[u8], start: usize) -> PlaceStep
+pub fn features_at(s: &[u8], start: usize) -> Result<usize, Fault>
     ensures { place_step result ≡ features (length s.now) s.now start }
 {
     let mut at = start;
-    let mut most = s.len();
-    while 0 < most {
-        match feature_word(s, at) {
-            NumberStep::Found(word, next) => {
-                if word == 0 {
-                    return PlaceStep::Found(next);
-                }
-                at = next;
-                most -= 1;
-            }
-            NumberStep::Refused(f) => {
-                return PlaceStep::Refused(f);
-            }
+    for done in 0..s.len() {
+        let (word, next) = feature_word(s, at)?;
+        if word == 0 {
+            return Ok(next);
         }
+        at = next;
     }
-    PlaceStep::Refused(wire::fault_at(7, Kind::Number, at))
+    Err(wire::fault_at(7, Kind::Number, at))
 }

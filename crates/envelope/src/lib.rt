@@ -19,42 +19,36 @@ pub struct Opening {
     pub stop: usize,
 }
 
-#[derive(Clone, Copy)]
-pub enum OpenStep {
-    Found(Opening),
-    Refused(Fault),
-}
-
 // The most bytes that an envelope may have.
 const MOST_BYTES: usize = 1048576;
 
 // The checks on an envelope before its payload; `supported` is the highest minimum version that is read.
-pub fn open_envelope(e: &[u8], supported: u64) -> OpenStep
+pub fn open_envelope(e: &[u8], supported: u64) -> Result<Opening, Fault>
     ensures { open_step result ≡ opened supported e.now }
 {
     if MOST_BYTES < e.len() {
-        return OpenStep::Refused(wire::fault_at(1, Kind::Envelope, 0));
+        return Err(wire::fault_at(1, Kind::Envelope, 0));
     }
     if e.len() < 8 {
-        return OpenStep::Refused(wire::fault_at(2, Kind::Envelope, 0));
+        return Err(wire::fault_at(2, Kind::Envelope, 0));
     }
     let end = e.len() - 4;
     let sum = checksum::crc32(&e[..end]);
     if sum as u64 != numbers::little_4(e, end) {
-        return OpenStep::Refused(wire::fault_at(3, Kind::Envelope, 0));
+        return Err(wire::fault_at(3, Kind::Envelope, 0));
     }
     let version = numbers::little_2(e, 0);
     let minimum = numbers::little_2(e, 2);
     if minimum < 1 {
-        return OpenStep::Refused(wire::fault_at(4, Kind::Envelope, 0));
+        return Err(wire::fault_at(4, Kind::Envelope, 0));
     }
     if version < minimum {
-        return OpenStep::Refused(wire::fault_at(4, Kind::Envelope, 0));
+        return Err(wire::fault_at(4, Kind::Envelope, 0));
     }
     if supported < minimum {
-        return OpenStep::Refused(wire::fault_at(5, Kind::Envelope, 0));
+        return Err(wire::fault_at(5, Kind::Envelope, 0));
     }
-    OpenStep::Found(Opening {
+    Ok(Opening {
         version,
         strict: version == minimum,
         stop: end,

@@ -40,10 +40,8 @@ pub fn fields_long(fields: &[u64]) -> usize
 {
     let n = fields.len() / FIELD_WORDS;
     let mut total = 0;
-    let mut i = 0;
-    while i < n {
+    for i in 0..n {
         total = with_field(total, field_rows::field_row(fields, FieldNumber(i as u64)));
-        i += 1;
     }
     total
 }

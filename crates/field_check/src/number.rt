@@ -46,17 +46,14 @@ fn field_number(strings: &[u8], row: FieldRow, fields: u64) -> u16
 fn fields_number(strings: &[u8], fields: &[u64], count: u64) -> u16
     ensures { result ≡ (pieces (field_item strings.now count) [] (all_rows field_row field_width fields.now)).number }
 {
-    let n = fields.len() / FIELD_WORDS;
-    let mut i = 0;
-    while i < n {
-        let row = field_rows::field_row(fields, FieldNumber(i as u64));
-        let number = field_number(strings, row, count);
-        if number != 0 {
-            return number;
-        }
-        i += 1;
-    }
-    0
+    verdicts::first_of_rows(
+        fields.len() / FIELD_WORDS,
+        |i| field_number(
+            strings,
+            field_rows::field_row(fields, FieldNumber(i as u64)),
+            count,
+        ),
+    )
 }
 
 // The first refusal of the list of fields.

@@ -8,7 +8,6 @@ ghost use Rattle.listing.specs.Order.{order_of};
 ghost use Rattle.listing.specs.Lines.{entry_line, marked};
 ghost use Rattle.listing.specs.Answers.{fitted, placed, Answered};
 
-use header_payload::ScanStep;
 use listing::ListAnswer;
 
 // Lists the fields of a header, a line each, over the first of the lent bytes: 20 where they are too few. What is refused leaves these as they
@@ -29,13 +28,13 @@ pub fn list_fields(envelope: &[u8], out: &mut [u8]) -> ListAnswer
         &mut column_rows,
         &mut alias_rows,
     ) {
-        ScanStep::Found(scan, _) => {
+        Ok((scan, _)) => {
             let lists = scan.lists;
             let n = lists.fields;
             let marks = parents::dark_marks(&parents, n, &column_rows, lists.columns);
             list_rows(envelope, &parents, n, &field_rows, &marks, out)
         }
-        ScanStep::Refused(f) => ListAnswer::Refused(f.number),
+        Err(f) => ListAnswer::Refused(f.number),
     }
 }
 

@@ -6,8 +6,7 @@ use mathlib.Core.List.{List}
 use native.Mathlib.Omega.{arith}
 use lib.ListN.{length, take}
 use Rattle.rows.specs.declared.FieldNumber.{FieldNumber}
-use Rattle.parents.specs.declared.Chains.{Chains}
-use Rattle.parents.specs.declared.Chains.TheVariants.{AllEnd, Endless}
+use Rattle.std.specs.Prelude.{Option, Some, None}
 use Rattle.parents.specs.Parents.{inside, endless, chains_of}
 use Rattle.parents.proofs.InsideLaws.{inside_few}
 use Rattle.rows.specs.Words.{most_fields}
@@ -40,11 +39,11 @@ linked_own {up} {n} {links} l =
     }
 
 module _ (parents : List ℕ) (n : ℕ) (fine : inside parents n ≡ true) where
-  chains_are : {c : Chains} → c ≡ chains_of parents n → endless (take n parents) n n ≡ c
+  chains_are : {c : Option FieldNumber} → c ≡ chains_of parents n → endless (take n parents) n n ≡ c
   unfolding chains_of
   chains_are e = sym (rw fine at e)
 
-  module _ (ends : AllEnd ≡ chains_of parents n) {links : List ℕ} (linked : Linked (holder (take n parents)) n 0 links) where
+  module _ (ends : None ≡ chains_of parents n) {links : List ℕ} (linked : Linked (holder (take n parents)) n 0 links) where
     ordered : below (up_in links) n n 0 n ≡ order (take n parents)
     unfolding order
     ordered = rw (front_long parents n fine) (below_same (up_in links) (holder (take n parents)) n (λ j l. linked.held j (omega arith) l) n 0 n)
@@ -62,5 +61,5 @@ module _ (parents : List ℕ) (n : ℕ) (fine : inside parents n ≡ true) where
     all_listed e = rw (chains_are ends) (entered_as ordered e)
 
   -- a chain that never ends
-  pub none_listed : {f : FieldNumber} → Endless f ≡ chains_of parents n → (old : List ℕ) → Entered old 0 old 0 (order_where (order (take n parents)) (endless (take n parents) n n))
+  pub none_listed : {f : FieldNumber} → Some f ≡ chains_of parents n → (old : List ℕ) → Entered old 0 old 0 (order_where (order (take n parents)) (endless (take n parents) n n))
   none_listed ends old = rw (chains_are ends) (entered_none (omega arith))

@@ -9,8 +9,6 @@ ghost use Rattle.parents.specs.Parents.{inside, endless};
 ghost use Rattle.listing.specs.Order.{order, order_where, order_of};
 ghost use Rattle.field_order.specs.Entered.{Entered};
 
-use parents::Chains;
-
 // The words of a table that has room for an entry of each field.
 pub const ORDER_WORDS: usize = listing::ENTRY_WORDS * rows::MOST_FIELDS;
 
@@ -40,10 +38,10 @@ fn order_inside(
 {
     let all = *parents;
     match parents::endless_chain(all, n) {
-        Chains::AllEnd => {
+        None => {
             let links = links::link_fields(parents, n);
             walk::list_children(&links, n, n, 0, n, entries, 0)
         }
-        Chains::Endless(_) => 0,
+        Some(_) => 0,
     }
 }

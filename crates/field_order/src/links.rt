@@ -35,9 +35,7 @@ pub fn link_fields(parents: &[u16], n: usize) -> [u16; ALL_LINKS]
     ensures { Linked (holder (take n parents.now)) n 0 result }
 {
     let mut links = [n as u16; ALL_LINKS];
-    let mut k = n;
-    while 0 < k {
-        k -= 1;
+    for k in (0..n).rev() {
         let above = holder_of(parents, n, k);
         links[LINK_NUMBERS * k] = above as u16;
         links[LINK_NUMBERS * k + NEXT] = links[LINK_NUMBERS * above + FIRST];

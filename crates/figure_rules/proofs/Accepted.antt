@@ -26,8 +26,8 @@ use Rattle.pages.specs.Pages.{page_word, elements_in, checksum_in, page, pages, 
 use Rattle.column_pages.specs.ColumnPages.{bits_of, per_column, pages_after, pages_of, payload}
 use Rattle.column_pages.proofs.ColumnLaws.{count_passes}
 use Rattle.column_pages.proofs.ScanLaws.{pages_fit_lem}
-use Rattle.totals.specs.declared.Totals.{Totals}
-use Rattle.totals.specs.declared.Totals.TheVariants.{Agree, Differ}
+use Rattle.std.specs.Prelude.{Option, Some, None}
+use Rattle.rows.specs.declared.FieldNumber.{FieldNumber}
 use Rattle.page_list.specs.PageList.{totals_of, agreed, summed, page_list_of}
 use Rattle.page_list.specs.Tables.{page_list_beside}
 
@@ -92,9 +92,9 @@ summed_small : (n entries : ℕ) (l : Lists) (x : Step (List (List PageRow))) {p
 unfolding summed
 summed_small n entries l (found qss q) {pss} {p} small e = by (totals_of entries l qss) e
   where
-    by : (t : Totals) → agreed t (found qss q) ≡ found pss p → SmallList n pss
-    by Agree g = small pss p g
-    by (Differ f) g = never g
+    by : (t : Option FieldNumber) → agreed t (found qss q) ≡ found pss p → SmallList n pss
+    by None g = small pss p g
+    by (Some f) g = never g
 summed_small n entries l (refused f) small e = never e
 
 -- the header that a page list was read beside, and what the page list then has

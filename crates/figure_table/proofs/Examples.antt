@@ -1,6 +1,5 @@
 -- The worked texts, computed.
 use mathlib.Core.Path.{refl}
-use Rattle.numbers.specs.Choice.{pick}
 use Rattle.decimals.specs.Decimal.{decimal_by}
 use Rattle.figure_table.specs.Table.{cell, type_text, row_text}
 use Rattle.figure_table.specs.Numeral.{with_digit, with_digits, numeral}

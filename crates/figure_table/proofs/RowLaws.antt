@@ -1,6 +1,6 @@
 -- The cells of a row, stored one after the other, and how many bytes they have. Assumes nothing.
-use Prim.Native.Nat.{ℕ, suc, ◌+◌, ◌-◌, ◌%◌, ◌^◌, ◌≤◌, ◌<◌}
-use mathlib.Core.Path.{◌≡◌, refl, sym, ap, ◌∙◌, subst}
+use Prim.Native.Nat.{ℕ, ◌+◌, ◌-◌, ◌%◌, ◌^◌, ◌≤◌, ◌<◌}
+use mathlib.Core.Path.{◌≡◌, ap, ◌∙◌}
 use mathlib.Core.List.{List, ◌++◌}
 use mathlib.Core.Logic.{⊎_elim}
 use native.Mathlib.Nat.{pow-le-pow_right}
@@ -11,7 +11,7 @@ use lib.ListN.{length, replicate, length-append, length-replicate}
 use Rattle.numbers.proofs.Choice.{which}
 use Rattle.io.specs.Counts.{IsPrefixLen}
 use Rattle.io.specs.Digits.{last_digits, IsDigitCount}
-use Rattle.decimals.specs.Decimal.{text, decimal}
+use Rattle.decimals.specs.Decimal.{text}
 use Rattle.stores.specs.Stored.{Stored}
 use Rattle.stores.proofs.Storing.{stored_then, stored_as_lem, stored_front}
 use Rattle.list_report.specs.Printed.{Prints}

@@ -1,8 +1,6 @@
 -- Worked texts: a row, and what is a number.
-use Rattle.std.specs.Prelude.{List, [], ◌≡◌}
+use Rattle.std.specs.Prelude.{[], ◌≡◌, Some, None}
 use Rattle.decimals.specs.Decimal.{text}
-use Rattle.figure_table.specs.declared.FigureRow.{FigureRow}
-use Rattle.figure_table.specs.declared.numerals.Numeral.TheVariants.{Number, None}
 use Rattle.figure_table.specs.Table.{row_text}
 use Rattle.figure_table.specs.Numeral.{numeral}
 
@@ -21,13 +19,13 @@ WideRow =
 -- numbers end where 64 bits do, and have nothing but digits
 
 abbrev pub LargestNumber : Type 0
-LargestNumber = numeral (text "18446744073709551615") ≡ Number 18446744073709551615
+LargestNumber = numeral (text "18446744073709551615") ≡ Some 18446744073709551615
 
 abbrev pub OneMore : Type 0
 OneMore = numeral (text "18446744073709551616") ≡ None
 
 abbrev pub ZerosInFront : Type 0
-ZerosInFront = numeral (text "00000000000000000000000042") ≡ Number 42
+ZerosInFront = numeral (text "00000000000000000000000042") ≡ Some 42
 
 abbrev pub NoDigits : Type 0
 NoDigits = numeral [] ≡ None

@@ -10,7 +10,7 @@ ghost use Rattle.listing.specs.Lines.{shown};
 ghost use Rattle.list_report.specs.Printed.{Prints};
 ghost use Rattle.figure_table.specs.Table.{row_text};
 
-pub use numerals::{Numeral, number_of};
+pub use numerals::number_of;
 
 // A row: a column's number and type, its figures, and the number of its field.
 #[derive(Clone, Copy)]
@@ -39,9 +39,7 @@ pub fn write_row(row: FigureRow, out: &mut [u8; ROW_BYTES]) -> usize
 pub fn make_printable(bytes: &mut [u8])
     ensures { bytes.new ≡ shown bytes.old }
 {
-    let mut i = 0;
-    while i < bytes.len() {
-        bytes[i] = listing_lines::shown_byte(bytes[i]);
-        i += 1;
+    for byte in bytes.iter_mut() {
+        *byte = listing_lines::shown_byte(*byte);
     }
 }

@@ -1,49 +1,37 @@
 // A number that is handed in as text.
-ghost use Rattle.std.specs.Prelude.{◌≡◌};
+ghost use Rattle.std.specs.Prelude.{◌≡◌, Some};
 ghost use Rattle.figure_table.specs.Numeral.{numeral, with_digit};
-ghost use Rattle.figure_table.specs.declared.numerals.Numeral.TheVariants.{Number as NumberIs};
 
-#[derive(Clone, Copy)]
-pub enum Numeral {
-    Number(u64),
-    // No digits, something else among them, or more than 64 bits hold.
-    None,
-}
-
-pub fn number_of(text: &[u8]) -> Numeral
+// None where there are no digits, something else among them, or more than 64 bits hold.
+pub fn number_of(text: &[u8]) -> Option<u64>
     ensures { result ≡ numeral text.now }
 {
     if text.len() == 0 {
-        return Numeral::None;
+        return None;
     }
     let mut n = 0;
-    let mut i = 0;
-    while i < text.len() {
-        let Numeral::Number(more) = with_digit(n, text[i]) else {
-            return Numeral::None;
-        };
-        n = more;
-        i += 1;
+    for byte in text {
+        n = with_digit(n, *byte)?;
     }
-    Numeral::Number(n)
+    Some(n)
 }
 
 // The number with one digit more behind it.
-fn with_digit(n: u64, byte: u8) -> Numeral
-    ensures { result ≡ with_digit (NumberIs n) byte }
+fn with_digit(n: u64, byte: u8) -> Option<u64>
+    ensures { result ≡ with_digit (Some n) byte }
 {
     if byte < 48 {
-        return Numeral::None;
+        return None;
     }
     if 57 < byte {
-        return Numeral::None;
+        return None;
     }
     if 1844674407370955161 < n {
-        return Numeral::None;
+        return None;
     }
     let digit = (byte - 48) as u64;
     if 18446744073709551615 - 10 * n < digit {
-        return Numeral::None;
+        return None;
     }
-    Numeral::Number(10 * n + digit)
+    Some(10 * n + digit)
 }

@@ -1,5 +1,4 @@
 // What the arguments name. Where one is no good, standard error says why.
-use figure_table::Numeral;
 use std::rt::Files;
 use std::{fs, io};
 
@@ -32,10 +31,10 @@ pub fn number_argument(
     rt: &impl Eprint,
     arguments: &[String],
     number: usize,
-) -> io::Result<Numeral> {
+) -> io::Result<Option<u64>> {
     let text = argument(arguments, number);
     let numeral = figure_table::number_of(text.as_bytes());
-    if let Numeral::None = numeral {
+    if numeral.is_none() {
         eprintln!(rt; "figures: {text}: no number from 0 to 18446744073709551615")?;
     }
     Ok(numeral)

@@ -1,7 +1,6 @@
 // The lists, taken into the report one after the other.
 use crate::{FIRST_LIST, LIST_ARGUMENTS, input, table};
 use figure_rules::FIGURE_WORDS;
-use figure_table::Numeral;
 use std::io;
 use std::rt::Files;
 
@@ -75,7 +74,7 @@ fn take_list<R: Files + Eprint>(
     counts: &mut [u64; 2],
 ) -> io::Result<Option<u32>> {
     let entries = input::number_argument(rt, arguments, std::num::wrapping_add_usize(first, 1))?;
-    let Numeral::Number(entries) = entries else {
+    let Some(entries) = entries else {
         return Ok(None);
     };
     let file_length = input::number_argument(
@@ -83,7 +82,7 @@ fn take_list<R: Files + Eprint>(
         arguments,
         std::num::wrapping_add_usize(first, 2),
     )?;
-    let Numeral::Number(file_length) = file_length else {
+    let Some(file_length) = file_length else {
         return Ok(None);
     };
     let Some(mut file) = input::open_argument(rt, arguments, first)? else {

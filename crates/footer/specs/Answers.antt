@@ -1,13 +1,12 @@
 -- What a scan of a payload says of it.
-use Rattle.std.specs.Prelude.{ℕ, List, ◌≡◌, Bool, true, length}
+use Rattle.std.specs.Prelude.{ℕ, List, ◌≡◌, Bool, true, length, Result, Ok, Err}
+use Rattle.wire.specs.declared.Fault.{Fault}
 use Rattle.wire.specs.Reading.{found, refused, accepted, rows_of}
 use Rattle.envelope.specs.Envelope.{whole}
 use Rattle.footer.specs.Footer.{Footer, payload}
 use Rattle.links.specs.Links.{link_list}
 use Rattle.clusters.specs.Clusters.{cluster_list}
 use Rattle.footer.specs.declared.lists.FooterScan.{FooterScan}
-use Rattle.footer.specs.declared.lists.ScanStep.{ScanStep}
-use Rattle.footer.specs.declared.lists.ScanStep.TheVariants.{Found as ScanFound, Refused as ScanRefused}
 
 -- the footer whose lists stand where a scan says
 abbrev pub scanned_footer : Bool → Bool → ℕ → List ℕ → FooterScan → Footer
@@ -23,6 +22,6 @@ pub record Scanned (checksum file : ℕ) (carried strict : Bool) (s : List ℕ) 
   pub metadata_counted : length (scanned_footer carried strict file s scan).metadata ≡ scan.metadata
 
 -- what a scan of a payload says of it
-abbrev pub Scans : ℕ → ℕ → Bool → Bool → List ℕ → ScanStep → Type 0
-Scans checksum file carried strict s (ScanFound scan) = Scanned checksum file carried strict s scan
-Scans checksum file carried strict s (ScanRefused f) = whole strict (payload carried checksum file strict) s 4 ≡ refused f
+abbrev pub Scans : ℕ → ℕ → Bool → Bool → List ℕ → Result FooterScan Fault → Type 0
+Scans checksum file carried strict s (Ok scan) = Scanned checksum file carried strict s scan
+Scans checksum file carried strict s (Err f) = whole strict (payload carried checksum file strict) s 4 ≡ refused f

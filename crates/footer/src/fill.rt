@@ -7,8 +7,7 @@ ghost use Rattle.links.specs.Links.{link_items, link_list};
 ghost use Rattle.clusters.specs.Clusters.{cluster_items, cluster_list};
 ghost use Rattle.clusters.specs.Answers.{checksum_at, cluster_at};
 
-use frames::{FrameStep, ListHead, ListStep};
-use links::LinkStep;
+use frames::ListHead;
 use rows::{ClusterRow, Link};
 
 // The checksum of a page list that stands at `at`, where it is carried.
@@ -54,19 +53,15 @@ fn fill_clusters(
     ensures { table.new ≡ over (flat cluster_words (rows_of (cluster_items s.now carried strict list head file))) table.old }
 {
     let count = head.count;
-    let mut i = 0;
     let mut at = head.start;
-    while i < count {
+    for i in 0..count {
         match frames::record_head(s, at) {
-            FrameStep::Found(start, stop) => {
+            Ok((start, stop)) => {
                 let row = cluster_at(frames::up_to(s, stop), carried, start);
                 cluster_rows::put_cluster(table, i, row);
                 at = stop;
-                i += 1;
             }
-            FrameStep::Refused(_) => {
-                return;
-            }
+            Err(_) => return,
         }
     }
 }
@@ -78,18 +73,14 @@ fn fill_links(table: &mut [u64], s: &[u8], list: usize, head: ListHead, file: u6
     ensures { table.new ≡ over (flat link_words (rows_of (link_items s.now list head file))) table.old }
 {
     let count = head.count;
-    let mut i = 0;
     let mut at = head.start;
-    while i < count {
+    for i in 0..count {
         match links::link_at(s, at, file) {
-            LinkStep::Found(row, next) => {
+            Ok((row, next)) => {
                 cluster_rows::put_link(table, i, row);
                 at = next;
-                i += 1;
             }
-            LinkStep::Refused(_) => {
-                return;
-            }
+            Err(_) => return,
         }
     }
 }
@@ -108,7 +99,7 @@ pub fn fill_cluster_list(
     ensures { table.new ≡ over (flat cluster_words (rows_of (cluster_list carried strict file s.now at))) table.old }
 {
     match list_frames::list_head_at_most(s, at, rows::MOST_CLUSTERS) {
-        ListStep::Found(head, stop) => {
+        Ok((head, stop)) => {
             fill_clusters(
                 table,
                 frames::up_to(s, stop),
@@ -119,7 +110,7 @@ pub fn fill_cluster_list(
                 file,
             );
         }
-        ListStep::Refused(_) => {}
+        Err(_) => {}
     }
 }
 
@@ -130,9 +121,9 @@ pub fn fill_link_list(table: &mut [u64], s: &[u8], strict: bool, at: usize, file
     ensures { table.new ≡ over (flat link_words (rows_of (link_list strict file s.now at))) table.old }
 {
     match list_frames::list_head_at_most(s, at, rows::MOST_LINKS) {
-        ListStep::Found(head, stop) => {
+        Ok((head, stop)) => {
             fill_links(table, frames::up_to(s, stop), at, head, file);
         }
-        ListStep::Refused(_) => {}
+        Err(_) => {}
     }
 }

@@ -9,7 +9,7 @@ ghost use Rattle.footer.specs.Answers.{Scans};
 use crate::FooterAnswer;
 use crate::fill::{fill_cluster_list, fill_link_list};
 use crate::opening::opening_at;
-use wire::{Fault, NumberStep, PlaceStep};
+use wire::Fault;
 
 // Where a footer's lists stand, and how many items each has.
 #[derive(Clone, Copy)]
@@ -20,44 +20,32 @@ pub struct FooterScan {
     pub metadata: usize,
 }
 
-#[derive(Clone, Copy)]
-pub enum ScanStep {
-    Found(FooterScan),
-    Refused(Fault),
-}
-
 // The verdict on a payload.
-fn scan_payload(s: &[u8], carried: bool, strict: bool, checksum: u64, file: u64) -> ScanStep
+fn scan_payload(
+    s: &[u8],
+    carried: bool,
+    strict: bool,
+    checksum: u64,
+    file: u64,
+) -> Result<FooterScan, Fault>
     ensures { Scans checksum file carried strict s.now result }
 {
-    match opening_at(s, strict, 4, checksum) {
-        PlaceStep::Found(clusters_at) => match clusters::scan_cluster_list(
-            s,
-            carried,
-            strict,
-            clusters_at,
-            file,
-        ) {
-            NumberStep::Found(clusters, metadata_at) => {
-                match links::scan_link_list(s, strict, metadata_at, file) {
-                    NumberStep::Found(metadata, past) => {
-                        match frames::close_frame(strict, past, s.len()) {
-                            PlaceStep::Found(_) => ScanStep::Found(FooterScan {
-                                clusters_at,
-                                clusters: clusters as usize,
-                                metadata_at,
-                                metadata: metadata as usize,
-                            }),
-                            PlaceStep::Refused(f) => ScanStep::Refused(f),
-                        }
-                    }
-                    NumberStep::Refused(f) => ScanStep::Refused(f),
-                }
-            }
-            NumberStep::Refused(f) => ScanStep::Refused(f),
-        },
-        PlaceStep::Refused(f) => ScanStep::Refused(f),
-    }
+    let clusters_at = opening_at(s, strict, 4, checksum)?;
+    let (clusters, metadata_at) = clusters::scan_cluster_list(
+        s,
+        carried,
+        strict,
+        clusters_at,
+        file,
+    )?;
+    let (metadata, past) = links::scan_link_list(s, strict, metadata_at, file)?;
+    let _ = frames::close_frame(strict, past, s.len())?;
+    Ok(FooterScan {
+        clusters_at,
+        clusters: clusters as usize,
+        metadata_at,
+        metadata: metadata as usize,
+    })
 }
 
 // The lent tables have room for the rows.
@@ -83,7 +71,7 @@ pub fn read_payload(
     ensures { Answered (in_envelope 2 (whole strict (payload carried checksum file strict) s.now 4)) clusters.old clusters.new metadata.old metadata.new result }
 {
     match scan_payload(s, carried, strict, checksum, file) {
-        ScanStep::Found(scan) => {
+        Ok(scan) => {
             if has_room(scan, clusters.len(), metadata.len()) {
                 fill_cluster_list(clusters, s, carried, strict, scan.clusters_at, file);
                 fill_link_list(metadata, s, strict, scan.metadata_at, file);
@@ -95,6 +83,6 @@ pub fn read_payload(
                 FooterAnswer::Refused(2, 20)
             }
         }
-        ScanStep::Refused(f) => FooterAnswer::Refused(2, f.number),
+        Err(f) => FooterAnswer::Refused(2, f.number),
     }
 }

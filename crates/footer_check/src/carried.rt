@@ -34,12 +34,9 @@ pub fn all_as_carried(carried: bool, clusters: &[u64]) -> bool
     ensures { result ≡ all_as_carried carried (all_rows cluster_row cluster_width clusters.now) }
 {
     let n = clusters.len() / rows::CLUSTER_WORDS;
-    let mut i = 0;
-    while i < n {
+    for i in 0..n {
         let checksum = rows::word(clusters, rows::CLUSTER_WORDS, i as u64, CHECKSUM);
-        if as_carried(carried, checksum) {
-            i += 1;
-        } else {
+        if !as_carried(carried, checksum) {
             return false;
         }
     }

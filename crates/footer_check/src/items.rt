@@ -52,15 +52,13 @@ pub fn clusters_number(carried: bool, file: u64, clusters: &[u64]) -> u16
 {
     let n = clusters.len() / rows::CLUSTER_WORDS;
     let mut sum: u64 = 0;
-    let mut i = 0;
-    while i < n {
+    for i in 0..n {
         let row = cluster_rows::cluster_row(clusters, i as u64);
         let number = cluster_number(row, carried, file, sum);
         if number != 0 {
             return number;
         }
         sum += row.entries;
-        i += 1;
     }
     0
 }
@@ -69,14 +67,8 @@ pub fn clusters_number(carried: bool, file: u64, clusters: &[u64]) -> u16
 pub fn links_number(file: u64, metadata: &[u64]) -> u16
     ensures { result ≡ (pieces (link_item file) [] (all_rows link_row link_width metadata.now)).number }
 {
-    let n = metadata.len() / rows::LINK_WORDS;
-    let mut i = 0;
-    while i < n {
-        let number = link_number(file, cluster_rows::link_row(metadata, i as u64));
-        if number != 0 {
-            return number;
-        }
-        i += 1;
-    }
-    0
+    verdicts::first_of_rows(
+        metadata.len() / rows::LINK_WORDS,
+        |i| link_number(file, cluster_rows::link_row(metadata, i as u64)),
+    )
 }

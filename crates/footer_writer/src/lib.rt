@@ -10,7 +10,6 @@ ghost use Rattle.writing.specs.Rows.{footer_rows};
 ghost use Rattle.writing.specs.Footer.{footer_piece};
 ghost use Rattle.writing.specs.Answers.{Answered, footer_to_write};
 
-use header_schema::HeaderVerdict;
 use writing::WriteAnswer;
 
 // Writes the footer of lent tables (5 words to a cluster, 2 to a metadata link) beside a header, and answers.
@@ -26,10 +25,8 @@ pub fn write_footer(
     let schema = header_schema::read_schema(header);
     let verdict = schema.verdict;
     match verdict {
-        HeaderVerdict::Accepted => {
-            write_beside(schema.checksum, file_length, clusters, metadata, out)
-        }
-        HeaderVerdict::Refused(f) => WriteAnswer::Refused(1, f.number),
+        Ok(()) => { write_beside(schema.checksum, file_length, clusters, metadata, out) }
+        Err(f) => WriteAnswer::Refused(1, f.number),
     }
 }
 

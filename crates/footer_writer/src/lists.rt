@@ -13,45 +13,41 @@ use crate::stored_records::{write_cluster, write_link};
 fn write_clusters(clusters: &[u64], carried: bool, at: usize, out: &mut [u8]) -> usize
     ensures { (file : ℕ) → Stored out.old at (pieces (cluster_item carried file) [] (all_rows cluster_row cluster_width clusters.now)).bytes out.new result }
 {
-    let n = clusters.len() / rows::CLUSTER_WORDS;
-    let mut next = at;
-    let mut i = 0;
-    while i < n {
-        let row = cluster_rows::cluster_row(clusters, i as u64);
-        next = write_cluster(row, carried, next, out);
-        i += 1;
-    }
-    next
+    stores::store_rows(
+        clusters.len() / rows::CLUSTER_WORDS,
+        at,
+        out,
+        |i, next, out| {
+            let row = cluster_rows::cluster_row(clusters, i as u64);
+            write_cluster(row, carried, next, out)
+        },
+    )
 }
 
 // The metadata links.
 fn write_links(metadata: &[u64], at: usize, out: &mut [u8]) -> usize
     ensures { (file : ℕ) → Stored out.old at (pieces (link_item file) [] (all_rows link_row link_width metadata.now)).bytes out.new result }
 {
-    let n = metadata.len() / rows::LINK_WORDS;
-    let mut next = at;
-    let mut i = 0;
-    while i < n {
-        next = write_link(cluster_rows::link_row(metadata, i as u64), next, out);
-        i += 1;
-    }
-    next
+    stores::store_rows(metadata.len() / rows::LINK_WORDS, at, out, |i, next, out| {
+        write_link(cluster_rows::link_row(metadata, i as u64), next, out)
+    })
 }
 
 pub fn write_cluster_list(clusters: &[u64], carried: bool, at: usize, out: &mut [u8]) -> usize
     ensures { (file : ℕ) → Stored out.old at (cluster_list_piece carried file (all_rows cluster_row cluster_width clusters.now)).bytes out.new result }
 {
-    let items = stores::store_8(0, at, out);
-    let end = write_clusters(clusters, carried, items, out);
-    stores::store_list_head(end - at, clusters.len() / rows::CLUSTER_WORDS, at, out);
-    end
+    stores::store_list(
+        clusters.len() / rows::CLUSTER_WORDS,
+        at,
+        out,
+        |items, out| { write_clusters(clusters, carried, items, out) },
+    )
 }
 
 pub fn write_link_list(metadata: &[u64], at: usize, out: &mut [u8]) -> usize
     ensures { (file : ℕ) → Stored out.old at (link_list_piece file (all_rows link_row link_width metadata.now)).bytes out.new result }
 {
-    let items = stores::store_8(0, at, out);
-    let end = write_links(metadata, items, out);
-    stores::store_list_head(end - at, metadata.len() / rows::LINK_WORDS, at, out);
-    end
+    stores::store_list(metadata.len() / rows::LINK_WORDS, at, out, |items, out| {
+        write_links(metadata, items, out)
+    })
 }

@@ -11,7 +11,7 @@ use Rattle.header.specs.Tables.{header_of}
 use Rattle.header.specs.Beside.{Beside, read}
 use Rattle.rows.specs.declared.ColumnRow.{ColumnRow}
 use Rattle.column_pages.specs.ColumnPages.{bits_of, payload}
-use Rattle.totals.specs.declared.Totals.TheVariants.{Agree}
+use Rattle.std.specs.Prelude.{None}
 use Rattle.page_list.specs.PageList.{totals_of, summed, page_list_of}
 use Rattle.page_list.specs.Tables.{page_list_beside, answer, outcome_of, written}
 use Rattle.rows.specs.declared.PageRow.{PageRow}
@@ -69,13 +69,13 @@ still_listed file bits l pages p reads the u ch small =
 
 -- beside a header with the same tables
 listed_beside : (e e' : List ℕ) (h h' : Header) (entries file : ℕ) (l : List ℕ) (pages : List (List PageRow)) (p : ℕ) → header_content e' h' ≡ header_content e h
-    → totals_of entries h.lists pages ≡ Agree → envelope 1 (payload file (bits_of h.lists.columns)) l ≡ found pages p
+    → totals_of entries h.lists pages ≡ None → envelope 1 (payload file (bits_of h.lists.columns)) l ≡ found pages p
     → page_list_of h' entries file l ≡ found pages p
 unfolding page_list_of summed
 listed_beside e e' h h' entries file l pages p same total reads =
     let columns = same_columns e e' h h' same in
     let reads' : envelope 1 (payload file (bits_of h'.lists.columns)) l ≡ found pages p = ap (λ (c : List ColumnRow). envelope 1 (payload file (bits_of c)) l) columns ∙ reads in
-    let total' : totals_of entries h'.lists pages ≡ Agree = totals_tables e e' h h' entries pages same ∙ total in
+    let total' : totals_of entries h'.lists pages ≡ None = totals_tables e e' h h' entries pages same ∙ total in
     ap (summed entries h'.lists) reads' ∙ rw total' refl
 
 -- extensions of a header and a page list that were read beside each other read the same

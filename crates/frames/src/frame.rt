@@ -5,11 +5,10 @@ ghost use Rattle.std.specs.Int.{w32};
 ghost use Rattle.std.proofs.Common.{to_z};
 ghost use Rattle.wire.specs.Reading.{found};
 ghost use Rattle.frames.specs.Frames.{frame_size, frame_end, record_head, list_stop, closed};
-ghost use Rattle.wire.specs.Answers.{place_step};
-ghost use Rattle.frames.specs.Answers.{frame_step};
+ghost use Rattle.wire.specs.Answers.{as_step, place_step};
 
-use crate::{FrameSize, FrameStep};
-use wire::{Kind, PlaceStep};
+use crate::FrameSize;
+use wire::{Fault, Kind, Step};
 
 // The bytes before `stop`: what a frame that stops there is read in.
 pub fn up_to(s: &[u8], stop: usize) -> &[u8]
@@ -54,56 +53,56 @@ pub fn frame_size(word: u64) -> FrameSize
 }
 
 // Where the content of a frame starts and the frame stops: its size is at least its head's, and its container has that much room.
-pub fn frame_end(s: &[u8], at: usize, head: usize, size: u64) -> FrameStep
-    ensures { frame_step result ≡ frame_end head s.now at size }
+pub fn frame_end(s: &[u8], at: usize, head: usize, size: u64) -> Step<usize>
+    ensures { as_step result ≡ frame_end head s.now at size }
 {
     let len = size as usize;
     if head <= len {
         if numbers::has_room(s, at, len) {
-            return FrameStep::Found(at + head, at + len);
+            return Ok((at + head, at + len));
         }
-        return FrameStep::Refused(wire::fault_at(7, Kind::Frame, at));
+        return Err(wire::fault_at(7, Kind::Frame, at));
     }
-    FrameStep::Refused(wire::fault_at(8, Kind::Frame, at))
+    Err(wire::fault_at(8, Kind::Frame, at))
 }
 
 // A record frame's head.
-pub fn record_head(s: &[u8], at: usize) -> FrameStep
-    ensures { frame_step result ≡ record_head s.now at }
+pub fn record_head(s: &[u8], at: usize) -> Step<usize>
+    ensures { as_step result ≡ record_head s.now at }
 {
     if numbers::has_room(s, at, 4) {
         match frame_size(numbers::little_4(s, at)) {
             FrameSize::RecordSize(size) => frame_end(s, at, 4, size),
-            FrameSize::ListSize(_) => FrameStep::Refused(wire::fault_at(8, Kind::Frame, at)),
+            FrameSize::ListSize(_) => Err(wire::fault_at(8, Kind::Frame, at)),
         }
     } else {
-        FrameStep::Refused(wire::fault_at(7, Kind::Frame, at))
+        Err(wire::fault_at(7, Kind::Frame, at))
     }
 }
 
 // The end of a frame whose content ends at `past`: bytes before `stop` are refused where `strict`, and skipped otherwise.
-pub fn close_frame(strict: bool, past: usize, stop: usize) -> PlaceStep
+pub fn close_frame(strict: bool, past: usize, stop: usize) -> Result<usize, Fault>
     ensures { place_step result ≡ closed strict stop (found tt past) }
 {
     if strict {
         if past < stop {
-            return PlaceStep::Refused(wire::fault_at(11, Kind::Spare, past));
+            return Err(wire::fault_at(11, Kind::Spare, past));
         }
-        return PlaceStep::Found(stop);
+        return Ok(stop);
     }
-    PlaceStep::Found(stop)
+    Ok(stop)
 }
 
 // Where a list frame's items start, and where the frame stops.
-pub fn list_stop(s: &[u8], at: usize) -> FrameStep
-    ensures { frame_step result ≡ list_stop s.now at }
+pub fn list_stop(s: &[u8], at: usize) -> Step<usize>
+    ensures { as_step result ≡ list_stop s.now at }
 {
     if numbers::has_room(s, at, 4) {
         match frame_size(numbers::little_4(s, at)) {
-            FrameSize::RecordSize(_) => FrameStep::Refused(wire::fault_at(8, Kind::Frame, at)),
+            FrameSize::RecordSize(_) => Err(wire::fault_at(8, Kind::Frame, at)),
             FrameSize::ListSize(size) => frame_end(s, at, 8, size),
         }
     } else {
-        FrameStep::Refused(wire::fault_at(7, Kind::Frame, at))
+        Err(wire::fault_at(7, Kind::Frame, at))
     }
 }

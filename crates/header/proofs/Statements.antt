@@ -18,8 +18,8 @@ use Rattle.outcome.specs.Outcome.{Outcome}
 use Rattle.header.specs.declared.HeaderAnswer.TheVariants.{Accepted, Refused}
 use Rattle.header.specs.Tables.{chained, header_of, parents_of, chain_fault, lowest_in, endless_fault}
 use Rattle.header.specs.Statements.{Lowest, ChainsAsDefined, EndlessAsDefined, DarkAsDefined, HeaderAnswerTells}
-use Rattle.parents.specs.declared.Chains.{Chains}
-use Rattle.parents.specs.declared.Chains.TheVariants.{AllEnd, Endless}
+use Rattle.std.specs.Prelude.{Option, Some, None}
+use Rattle.rows.specs.declared.FieldNumber.{FieldNumber}
 use Rattle.numbers.proofs.Choice.{which, clash, is_false}
 use Rattle.parents.proofs.EndlessLaws.{all_end, one_endless, all_reach_iff}
 use Rattle.parents.proofs.DarkLaws.{Owned, dark_iff}
@@ -36,9 +36,9 @@ module _ (rows : List FieldRow) (inside : Inside (parents_of rows) (length rows)
   lowest_of : all_reach (parents_of rows) (length rows) ≡ false → Lowest (parents_of rows) (length rows) (lowest_in (endless (parents_of rows) (length rows) (length rows)))
   lowest_of n = by (endless (parents_of rows) (length rows) (length rows)) refl
     where
-      by : (c : Chains) → endless (parents_of rows) (length rows) (length rows) ≡ c → Lowest (parents_of rows) (length rows) (lowest_in c)
-      by AllEnd e = clash ((all_reach_iff (parents_of rows) (length rows)).1 (same ∙ e)) n
-      by (Endless f) e = let r = one_endless (parents_of rows) (length rows) inside f.0 e in record { one = r.0; never = r.1; below = r.2 }
+      by : (c : Option FieldNumber) → endless (parents_of rows) (length rows) (length rows) ≡ c → Lowest (parents_of rows) (length rows) (lowest_in c)
+      by None e = clash ((all_reach_iff (parents_of rows) (length rows)).1 (same ∙ e)) n
+      by (Some f) e = let r = one_endless (parents_of rows) (length rows) inside f.0 e in record { one = r.0; never = r.1; below = r.2 }
 
 lowest_unique : {parents : List ℕ} {n a b : ℕ} → Lowest parents n a → Lowest parents n b → a ≡ b
 lowest_unique {a = a} {b = b} x y =

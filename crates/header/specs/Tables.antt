@@ -13,8 +13,8 @@ use Rattle.rows.specs.Words.{bit, field_width, column_width, alias_width, field_
 use Rattle.header.specs.Header.{Lists, Header, payload}
 use Rattle.header.specs.declared.HeaderTables.{HeaderTables}
 use Rattle.parents.specs.Parents.{all_reach, endless}
-use Rattle.parents.specs.declared.Chains.{Chains}
-use Rattle.parents.specs.declared.Chains.TheVariants.{AllEnd, Endless}
+use Rattle.std.specs.Prelude.{Option, Some, None}
+use Rattle.rows.specs.declared.FieldNumber.{FieldNumber}
 use Rattle.parents.specs.Dark.{dark}
 use Rattle.rows.specs.declared.FieldRow.{FieldRow}
 use Rattle.header.specs.declared.HeaderAnswer.{HeaderAnswer}
@@ -33,9 +33,9 @@ abbrev pub chain_fault : List ℕ → ℕ → ℕ → Fault
 chain_fault s list f = record { number = 15; place = record_at s (list + 8) f; kind = Chain; list = list; item = f }
 
 -- the field that an answer on chains names, 0 where it names none
-abbrev pub lowest_in : Chains → ℕ
-lowest_in AllEnd = 0
-lowest_in (Endless f) = f.0
+abbrev pub lowest_in : Option FieldNumber → ℕ
+lowest_in None = 0
+lowest_in (Some f) = f.0
 
 -- the refusal of the lowest field whose chain never ends
 abbrev pub endless_fault : List ℕ → Lists → Fault

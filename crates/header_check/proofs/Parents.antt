@@ -21,7 +21,7 @@ use Rattle.rows.specs.declared.FieldNumber.{FieldNumber}
 use Rattle.rows.specs.declared.FieldRow.{FieldRow}
 use Rattle.records.specs.declared.HeaderTexts.{HeaderTexts}
 use Rattle.parents.specs.Parents.{chains_of}
-use Rattle.parents.specs.declared.Chains.TheVariants.{AllEnd, Endless}
+use Rattle.std.specs.Prelude.{Some, None}
 use Rattle.header.specs.Header.{flags_of}
 use Rattle.header.specs.Tables.{parents_of}
 use Rattle.header.proofs.BoundLaws.{map_below}
@@ -87,10 +87,10 @@ module _ (table : List ℕ) (p : Parented (all_rows field_row field_width table)
     inside : (f : ℕ) → f < length table / field_width → get_or (parents_of (all_rows field_row field_width table)) f 0 < length table / field_width
     inside f h = omega (arith, p.inside f (omega (arith, h, count table)), count table)
 
-    pub chains_end : chains_of all (length table / field_width) ≡ AllEnd → 0 ≡ chains (all_rows field_row field_width table)
+    pub chains_end : chains_of all (length table / field_width) ≡ None → 0 ≡ chains (all_rows field_row field_width table)
     chains_end e = rw (rows_end (all_rows field_row field_width table) all (length table / field_width) (count table) same few_rows inside e)
 
-    pub chain_endless : (f : FieldNumber) → chains_of all (length table / field_width) ≡ Endless f → 15 ≡ chains (all_rows field_row field_width table)
+    pub chain_endless : (f : FieldNumber) → chains_of all (length table / field_width) ≡ Some f → 15 ≡ chains (all_rows field_row field_width table)
     chain_endless f e = rw (rows_endless (all_rows field_row field_width table) all (length table / field_width) (count table) same few_rows inside f e)
 
 -- a loop has filled in the parents of i rows

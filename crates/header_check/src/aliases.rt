@@ -41,17 +41,10 @@ fn alias_number(row: AliasRow, fields: &[u64], columns: u64) -> u16
 fn aliases_number(aliases: &[u64], fields: &[u64], columns: u64) -> u16
     ensures { result ≡ (pieces (alias_item (flags_of (all_rows field_row field_width fields.now)) columns) [] (all_rows alias_row alias_width aliases.now)).number }
 {
-    let n = aliases.len() / ALIAS_WORDS;
-    let mut i = 0;
-    while i < n {
-        let row = column_rows::alias_row(aliases, i as u64);
-        let number = alias_number(row, fields, columns);
-        if number != 0 {
-            return number;
-        }
-        i += 1;
-    }
-    0
+    verdicts::first_of_rows(
+        aliases.len() / ALIAS_WORDS,
+        |i| alias_number(column_rows::alias_row(aliases, i as u64), fields, columns),
+    )
 }
 
 // The first refusal of the list of aliases.

@@ -7,7 +7,6 @@ ghost use Rattle.writing.specs.Rows.{all_rows};
 ghost use Rattle.writing.specs.Header.{chains};
 ghost use Rattle.header_check.specs.Parented.{Parented};
 
-use parents::Chains;
 use rows::FIELD_WORDS;
 
 // The word of a field's row that has its parent.
@@ -20,10 +19,8 @@ fn all_parents(fields: &[u64]) -> [u16; rows::MOST_FIELDS]
 {
     let n = fields.len() / FIELD_WORDS;
     let mut all = [0u16; rows::MOST_FIELDS];
-    let mut i = 0;
-    while i < n {
+    for i in 0..n {
         all[i] = rows::word(fields, FIELD_WORDS, i as u64, PARENT) as u16;
-        i += 1;
     }
     all
 }
@@ -34,7 +31,7 @@ pub fn chains_number(fields: &[u64]) -> u16
     ensures { result ≡ chains (all_rows field_row field_width fields.now) }
 {
     match parents::endless_chain(all_parents(fields), fields.len() / FIELD_WORDS) {
-        Chains::AllEnd => 0,
-        Chains::Endless(_) => 15,
+        None => 0,
+        Some(_) => 15,
     }
 }

@@ -28,17 +28,13 @@ fn column_number(row: ColumnRow, fields: u64) -> u16
 fn columns_number(columns: &[u64], fields: u64) -> u16
     ensures { result ≡ (pieces (column_item fields) [] (all_rows column_row column_width columns.now)).number }
 {
-    let n = columns.len() / COLUMN_WORDS;
-    let mut i = 0;
-    while i < n {
-        let row = column_rows::column_row(columns, ColumnNumber(i as u64));
-        let number = column_number(row, fields);
-        if number != 0 {
-            return number;
-        }
-        i += 1;
-    }
-    0
+    verdicts::first_of_rows(
+        columns.len() / COLUMN_WORDS,
+        |i| column_number(
+            column_rows::column_row(columns, ColumnNumber(i as u64)),
+            fields,
+        ),
+    )
 }
 
 // The first refusal of the list of columns.

@@ -5,17 +5,15 @@
 ghost use Rattle.std.specs.Prelude.{◌≡◌, ◌≤◌, length, take};
 ghost use Rattle.rows.specs.Words.{most_fields};
 ghost use Rattle.wire.specs.Reading.{counted};
-ghost use Rattle.wire.specs.Answers.{number_step};
-ghost use Rattle.field_records.specs.Answers.{texts_step};
+ghost use Rattle.wire.specs.Answers.{as_step};
 ghost use Rattle.header.specs.Header.{field_items, column_items, alias_items};
 ghost use Rattle.header_lists.specs.Next.{fields_next, columns_next, aliases_next, number_in};
 ghost use Rattle.header_lists.specs.Kept.{Kept, lay_parents, lay_flags, lay_fields, lay_columns, lay_aliases};
 
-use column_records::{AliasStep, ColumnStep};
-use field_records::{FieldStep, TextsStep};
-use frames::{ListHead, ListStep};
+use frames::ListHead;
+use records::HeaderTexts;
 use rows::{ColumnNumber, FieldNumber};
-use wire::NumberStep;
+use wire::Step;
 
 // The verdict on the fields of a list at `list`, whose head was read; where they are accepted, `parents` and `flags` have those of
 // each, and `rows` has the row of each for which there is room.
@@ -27,67 +25,57 @@ fn scan_fields(
     parents: &mut [u16],
     flags: &mut [u64],
     rows: &mut [u64],
-) -> NumberStep
+) -> Step<u64>
     requires { (head.count ≤ most_fields) × (head.count ≤ length parents.old) × (head.count ≤ length flags.old) }
-    ensures result_value { number_step result ≡ counted (field_items s.now strict list head) }
+    ensures result_value { as_step result ≡ counted (field_items s.now strict list head) }
     ensures kept { Kept lay_parents (field_items s.now strict list head) parents.old parents.new }
     ensures kept_2 { Kept lay_flags (field_items s.now strict list head) flags.old flags.new }
     ensures kept_3 { Kept lay_fields (field_items s.now strict list head) rows.old rows.new }
 {
     let count = head.count;
-    let mut i = 0;
     let mut at = head.start;
-    while i < count {
+    for i in 0..count {
         match field_records::field_record(s, strict, at, count as u64) {
-            FieldStep::Found(row, next) => {
+            Ok((row, next)) => {
                 let row_head = row.head;
                 let parent = row_head.parent;
                 parents[i] = parent.0 as u16;
                 flags[i] = row_head.flags;
                 field_rows::put_field(rows, FieldNumber(i as u64), row, 0);
                 at = next;
-                i += 1;
             }
-            FieldStep::Refused(f) => {
-                return NumberStep::Refused(wire::fault_in_item(list, i, f));
-            }
+            Err(f) => return Err(wire::fault_in_item(list, i, f)),
         }
     }
-    NumberStep::Found(count as u64, at)
+    Ok((count as u64, at))
 }
 
 // The verdict on the list of fields after the texts: how many they are, and the place after their frame.
 pub fn scan_field_list(
     s: &[u8],
     strict: bool,
-    texts: TextsStep,
+    texts: Step<HeaderTexts>,
     parents: &mut [u16; rows::MOST_FIELDS],
     flags: &mut [u64; rows::MOST_FIELDS],
     rows: &mut [u64],
-) -> NumberStep
-    ensures result_value { number_step result ≡ counted (fields_next strict s.now (texts_step texts)) }
-    ensures kept { Kept lay_parents (fields_next strict s.now (texts_step texts)) parents.old parents.new }
-    ensures kept_2 { Kept lay_flags (fields_next strict s.now (texts_step texts)) flags.old flags.new }
-    ensures kept_3 { Kept lay_fields (fields_next strict s.now (texts_step texts)) rows.old rows.new }
+) -> Step<u64>
+    ensures result_value { as_step result ≡ counted (fields_next strict s.now (as_step texts)) }
+    ensures kept { Kept lay_parents (fields_next strict s.now (as_step texts)) parents.old parents.new }
+    ensures kept_2 { Kept lay_flags (fields_next strict s.now (as_step texts)) flags.old flags.new }
+    ensures kept_3 { Kept lay_fields (fields_next strict s.now (as_step texts)) rows.old rows.new }
 {
-    match texts {
-        TextsStep::Found(_, at) => match list_frames::list_head_at_most(s, at, rows::MOST_FIELDS) {
-            ListStep::Found(head, stop) => {
-                let scanned = scan_fields(
-                    frames::up_to(s, stop),
-                    strict,
-                    at,
-                    head,
-                    parents,
-                    flags,
-                    rows,
-                );
-                list_frames::close_list(scanned, strict, at, head.count, stop)
-            }
-            ListStep::Refused(f) => NumberStep::Refused(f),
-        },
-        TextsStep::Refused(f) => NumberStep::Refused(f),
-    }
+    let (_, at) = texts?;
+    let (head, stop) = list_frames::list_head_at_most(s, at, rows::MOST_FIELDS)?;
+    let scanned = scan_fields(
+        frames::up_to(s, stop),
+        strict,
+        at,
+        head,
+        parents,
+        flags,
+        rows,
+    );
+    list_frames::close_list(scanned, strict, at, head.count, stop)
 }
 
 // The verdict on the columns of a list at `list`, whose head was read; where they are accepted, `rows` has the row of each for which
@@ -99,47 +87,33 @@ fn scan_columns(
     head: ListHead,
     fields: u64,
     rows: &mut [u64],
-) -> NumberStep
-    ensures result_value { number_step result ≡ counted (column_items s.now strict list head fields) }
+) -> Step<u64>
+    ensures result_value { as_step result ≡ counted (column_items s.now strict list head fields) }
     ensures kept { Kept lay_columns (column_items s.now strict list head fields) rows.old rows.new }
 {
     let count = head.count;
-    let mut i = 0;
     let mut at = head.start;
-    while i < count {
+    for i in 0..count {
         match column_records::column_record(s, strict, at, fields) {
-            ColumnStep::Found(row, next) => {
+            Ok((row, next)) => {
                 column_rows::put_column(rows, ColumnNumber(i as u64), row);
                 at = next;
-                i += 1;
             }
-            ColumnStep::Refused(f) => {
-                return NumberStep::Refused(wire::fault_in_item(list, i, f));
-            }
+            Err(f) => return Err(wire::fault_in_item(list, i, f)),
         }
     }
-    NumberStep::Found(count as u64, at)
+    Ok((count as u64, at))
 }
 
 // The verdict on the list of columns after that of fields: how many they are, and the place after their frame.
-pub fn scan_column_list(s: &[u8], strict: bool, fields: NumberStep, rows: &mut [u64]) -> NumberStep
-    ensures result_value { number_step result ≡ counted (columns_next strict s.now (number_step fields)) }
-    ensures kept { Kept lay_columns (columns_next strict s.now (number_step fields)) rows.old rows.new }
+pub fn scan_column_list(s: &[u8], strict: bool, fields: Step<u64>, rows: &mut [u64]) -> Step<u64>
+    ensures result_value { as_step result ≡ counted (columns_next strict s.now (as_step fields)) }
+    ensures kept { Kept lay_columns (columns_next strict s.now (as_step fields)) rows.old rows.new }
 {
-    match fields {
-        NumberStep::Found(n, at) => match list_frames::list_head_at_most(
-            s,
-            at,
-            rows::MOST_COLUMNS,
-        ) {
-            ListStep::Found(head, stop) => {
-                let scanned = scan_columns(frames::up_to(s, stop), strict, at, head, n, rows);
-                list_frames::close_list(scanned, strict, at, head.count, stop)
-            }
-            ListStep::Refused(f) => NumberStep::Refused(f),
-        },
-        NumberStep::Refused(f) => NumberStep::Refused(f),
-    }
+    let (n, at) = fields?;
+    let (head, stop) = list_frames::list_head_at_most(s, at, rows::MOST_COLUMNS)?;
+    let scanned = scan_columns(frames::up_to(s, stop), strict, at, head, n, rows);
+    list_frames::close_list(scanned, strict, at, head.count, stop)
 }
 
 // The verdict on the aliases of a list at `list`, whose head was read; where they are accepted, `rows` has the row of each for which
@@ -152,35 +126,31 @@ fn scan_aliases(
     flags: &[u64],
     columns: u64,
     rows: &mut [u64],
-) -> NumberStep
-    ensures result_value { number_step result ≡ counted (alias_items s.now strict list head flags.now columns) }
+) -> Step<u64>
+    ensures result_value { as_step result ≡ counted (alias_items s.now strict list head flags.now columns) }
     ensures kept { Kept lay_aliases (alias_items s.now strict list head flags.now columns) rows.old rows.new }
 {
     let count = head.count;
-    let mut i = 0;
     let mut at = head.start;
-    while i < count {
+    for i in 0..count {
         match column_records::alias_record(s, strict, at, flags, columns) {
-            AliasStep::Found(row, next) => {
+            Ok((row, next)) => {
                 column_rows::put_alias(rows, i, row);
                 at = next;
-                i += 1;
             }
-            AliasStep::Refused(f) => {
-                return NumberStep::Refused(wire::fault_in_item(list, i, f));
-            }
+            Err(f) => return Err(wire::fault_in_item(list, i, f)),
         }
     }
-    NumberStep::Found(count as u64, at)
+    Ok((count as u64, at))
 }
 
 // The number of a step, 0 where it was refused.
-pub fn number_in(step: NumberStep) -> usize
-    ensures { result ≡ number_in (number_step step) }
+pub fn number_in(step: Step<u64>) -> usize
+    ensures { result ≡ number_in (as_step step) }
 {
     match step {
-        NumberStep::Found(n, _) => n as usize,
-        NumberStep::Refused(_) => 0,
+        Ok((n, _)) => n as usize,
+        Err(_) => 0,
     }
 }
 
@@ -199,28 +169,18 @@ fn first_words(words: &[u64], n: usize) -> &[u64]
 pub fn scan_alias_list(
     s: &[u8],
     strict: bool,
-    fields: NumberStep,
+    fields: Step<u64>,
     flags: &[u64],
-    columns: NumberStep,
+    columns: Step<u64>,
     rows: &mut [u64],
-) -> NumberStep
-    ensures result_value { number_step result ≡ counted (aliases_next strict s.now flags.now (number_step fields) (number_step columns)) }
-    ensures kept { Kept lay_aliases (aliases_next strict s.now flags.now (number_step fields) (number_step columns)) rows.old rows.new }
+) -> Step<u64>
+    ensures result_value { as_step result ≡ counted (aliases_next strict s.now flags.now (as_step fields) (as_step columns)) }
+    ensures kept { Kept lay_aliases (aliases_next strict s.now flags.now (as_step fields) (as_step columns)) rows.old rows.new }
 {
-    match columns {
-        NumberStep::Found(m, at) => match list_frames::list_head_at_most(
-            s,
-            at,
-            rows::MOST_ALIASES,
-        ) {
-            ListStep::Found(head, stop) => {
-                let of_fields = first_words(flags, number_in(fields));
-                let inner = frames::up_to(s, stop);
-                let scanned = scan_aliases(inner, strict, at, head, of_fields, m, rows);
-                list_frames::close_list(scanned, strict, at, head.count, stop)
-            }
-            ListStep::Refused(f) => NumberStep::Refused(f),
-        },
-        NumberStep::Refused(f) => NumberStep::Refused(f),
-    }
+    let (m, at) = columns?;
+    let (head, stop) = list_frames::list_head_at_most(s, at, rows::MOST_ALIASES)?;
+    let of_fields = first_words(flags, number_in(fields));
+    let inner = frames::up_to(s, stop);
+    let scanned = scan_aliases(inner, strict, at, head, of_fields, m, rows);
+    list_frames::close_list(scanned, strict, at, head.count, stop)
 }

@@ -6,12 +6,6 @@ use Rattle.header.specs.Header.{Lists, Header}
 use Rattle.header_lists.specs.Next.{number_in}
 use Rattle.header_payload.specs.declared.HeaderLists.{HeaderLists}
 use Rattle.header_payload.specs.declared.HeaderScan.{HeaderScan}
-use Rattle.header_payload.specs.declared.ScanStep.{ScanStep}
-use Rattle.header_payload.specs.declared.ScanStep.TheVariants.{Found as ScanFound, Refused as ScanRefused}
-
-abbrev pub scan_step : ScanStep → Step HeaderScan
-scan_step (ScanFound a p) = found a p
-scan_step (ScanRefused f) = refused f
 
 -- where the list of fields stands, and how many rows each list has
 abbrev pub summary : Lists → HeaderLists

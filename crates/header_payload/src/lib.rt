@@ -4,17 +4,15 @@
 ghost use Rattle.std.specs.Prelude.{◌≡◌, length, replicate};
 ghost use Rattle.rows.specs.Words.{most_fields};
 ghost use Rattle.wire.specs.Reading.{mapped};
-ghost use Rattle.wire.specs.Answers.{number_step};
-ghost use Rattle.field_records.specs.Answers.{texts_step};
+ghost use Rattle.wire.specs.Answers.{as_step};
 ghost use Rattle.frames.specs.Frames.{closed};
 ghost use Rattle.envelope.specs.Envelope.{whole};
 ghost use Rattle.header.specs.Header.{payload};
-ghost use Rattle.header_payload.specs.Answers.{scan_step, scan_of, gathered};
+ghost use Rattle.header_payload.specs.Answers.{scan_of, gathered};
 ghost use Rattle.header_payload.specs.Settled.{Settled};
 
-use field_records::TextsStep;
 use records::HeaderTexts;
-use wire::{Fault, NumberStep, PlaceStep};
+use wire::Step;
 
 // Where the list of fields stands, and how many items each list has.
 #[derive(Clone, Copy)]
@@ -31,12 +29,6 @@ pub struct HeaderScan {
     pub lists: HeaderLists,
 }
 
-#[derive(Clone, Copy)]
-pub enum ScanStep {
-    Found(HeaderScan, usize),
-    Refused(Fault),
-}
-
 // The verdict on a payload. Where it is accepted, the arrays have in front the parent and the flags of each field, and the tables the
 // rows of fields (no dark mark yet), columns and aliases, as far as each has room; where it is refused they are all zero.
 pub fn scan_payload(
@@ -47,8 +39,8 @@ pub fn scan_payload(
     fields: &mut [u64],
     columns: &mut [u64],
     aliases: &mut [u64],
-) -> ScanStep
-    ensures result_value { scan_step result ≡ mapped scan_of (whole strict (payload strict) s.now 4) }
+) -> Step<HeaderScan>
+    ensures result_value { as_step result ≡ mapped scan_of (whole strict (payload strict) s.now 4) }
     ensures settled { Settled (whole strict (payload strict) s.now 4) parents.old parents.new flags.old flags.new fields.old fields.new columns.old columns.new aliases.old aliases.new }
 {
     let texts = field_records::texts_at(s, 4);
@@ -56,10 +48,10 @@ pub fn scan_payload(
     let m = header_lists::scan_column_list(s, strict, n, columns);
     let l = header_lists::scan_alias_list(s, strict, n, flags, m, aliases);
     match gather(strict, s.len(), texts, n, m, l) {
-        ScanStep::Found(scan, next) => ScanStep::Found(scan, next),
-        ScanStep::Refused(f) => {
+        Ok((scan, next)) => Ok((scan, next)),
+        Err(f) => {
             clear(parents, flags, fields, columns, aliases);
-            ScanStep::Refused(f)
+            Err(f)
         }
     }
 }
@@ -68,31 +60,23 @@ pub fn scan_payload(
 fn gather(
     strict: bool,
     end: usize,
-    texts: TextsStep,
-    fields: NumberStep,
-    columns: NumberStep,
-    aliases: NumberStep,
-) -> ScanStep
-    ensures { scan_step result ≡ closed strict end (gathered (texts_step texts) (number_step fields) (number_step columns) (number_step aliases)) }
+    texts: Step<HeaderTexts>,
+    fields: Step<u64>,
+    columns: Step<u64>,
+    aliases: Step<u64>,
+) -> Step<HeaderScan>
+    ensures { as_step result ≡ closed strict end (gathered (as_step texts) (as_step fields) (as_step columns) (as_step aliases)) }
 {
-    match texts {
-        TextsStep::Found(texts, fields_at) => match aliases {
-            NumberStep::Found(l, past) => match frames::close_frame(strict, past, end) {
-                PlaceStep::Found(next) => {
-                    let lists = HeaderLists {
-                        fields_at,
-                        fields: header_lists::number_in(fields),
-                        columns: header_lists::number_in(columns),
-                        aliases: l as usize,
-                    };
-                    ScanStep::Found(HeaderScan { texts, lists }, next)
-                }
-                PlaceStep::Refused(f) => ScanStep::Refused(f),
-            },
-            NumberStep::Refused(f) => ScanStep::Refused(f),
-        },
-        TextsStep::Refused(f) => ScanStep::Refused(f),
-    }
+    let (texts, fields_at) = texts?;
+    let (l, past) = aliases?;
+    let next = frames::close_frame(strict, past, end)?;
+    let lists = HeaderLists {
+        fields_at,
+        fields: header_lists::number_in(fields),
+        columns: header_lists::number_in(columns),
+        aliases: l as usize,
+    };
+    Ok((HeaderScan { texts, lists }, next))
 }
 
 // All zero.
@@ -119,9 +103,5 @@ pub fn clear(
 fn clear_table(table: &mut [u64])
     ensures { table.new ≡ replicate (length table.old) 0 }
 {
-    let mut i = 0;
-    while i < table.len() {
-        table[i] = 0;
-        i += 1;
-    }
+    table.fill(0);
 }

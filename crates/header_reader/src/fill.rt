@@ -5,13 +5,15 @@ ghost use Rattle.rows.specs.Words.{field_width, column_width, alias_width, field
 ghost use Rattle.rows.specs.Tables.{field_row, first_rows, columns_in};
 ghost use Rattle.parents.specs.Dark.{dark_mark};
 ghost use Rattle.wire.specs.Reading.{mapped};
+ghost use Rattle.wire.specs.Answers.{as_step};
 ghost use Rattle.header.specs.Tables.{fitting, header_of, Answered};
-ghost use Rattle.header_payload.specs.Answers.{scan_step, scan_of};
+ghost use Rattle.header_payload.specs.Answers.{scan_of};
 ghost use Rattle.header_reader.specs.Fits.{Fits, Scanned, rows_there};
 
 use header::{HeaderAnswer, HeaderTables};
-use header_payload::{HeaderLists, ScanStep};
+use header_payload::{HeaderLists, HeaderScan};
 use rows::FieldNumber;
+use wire::Step;
 
 // The lent tables have room for the rows.
 pub fn has_room(lists: HeaderLists, fields: usize, columns: usize, aliases: usize) -> bool
@@ -31,11 +33,9 @@ fn fill_fields(table: &mut [u64], field_rows: &[u64], n: usize, marks: &[u8])
     requires { (field_width * n ≤ length table.old) × (n ≤ length marks.now) }
     ensures { table.new ≡ over (flat_by (λ i. field_words (get_or marks.now i 0)) 0 (first_rows field_row field_rows.now n)) table.old }
 {
-    let mut i = 0;
-    while i < n {
+    for i in 0..n {
         let row = field_rows::field_row(field_rows, FieldNumber(i as u64));
         field_rows::put_field(table, FieldNumber(i as u64), row, marks[i] as u64);
-        i += 1;
     }
 }
 
@@ -64,19 +64,19 @@ pub fn fill_tables(
 }
 
 // Arrays of so many words had room for the rows that a scan found.
-pub fn rows_there(step: ScanStep, fields: usize, columns: usize, aliases: usize) -> bool
-    ensures { result ≡ rows_there fields columns aliases (scan_step step) }
+pub fn rows_there(step: Step<HeaderScan>, fields: usize, columns: usize, aliases: usize) -> bool
+    ensures { result ≡ rows_there fields columns aliases (as_step step) }
 {
     match step {
-        ScanStep::Found(scan, _) => has_room(scan.lists, fields, columns, aliases),
-        ScanStep::Refused(_) => true,
+        Ok((scan, _)) => has_room(scan.lists, fields, columns, aliases),
+        Err(_) => true,
     }
 }
 
 // The answer for an envelope that was scanned, whose rows are in the arrays of the scan.
 pub fn answer_scan(
     envelope: &[u8],
-    step: ScanStep,
+    step: Step<HeaderScan>,
     parents: &[u16; rows::MOST_FIELDS],
     field_rows: &[u64],
     column_rows: &[u64],
@@ -85,12 +85,12 @@ pub fn answer_scan(
     columns: &mut [u64],
     aliases: &mut [u64],
 ) -> HeaderAnswer
-    requires step_value { scan_step step ≡ mapped scan_of (header_of envelope.now) }
+    requires step_value { as_step step ≡ mapped scan_of (header_of envelope.now) }
     requires scanned { Scanned (header_of envelope.now) parents.now field_rows.now column_rows.now alias_rows.now }
     ensures { Answered (header_of envelope.now) fields.old fields.new columns.old columns.new aliases.old aliases.new result }
 {
     match step {
-        ScanStep::Found(scan, _) => {
+        Ok((scan, _)) => {
             let lists = scan.lists;
             let texts = scan.texts;
             if has_room(lists, fields.len(), columns.len(), aliases.len()) {
@@ -113,6 +113,6 @@ pub fn answer_scan(
             }
             HeaderAnswer::Refused(20)
         }
-        ScanStep::Refused(f) => HeaderAnswer::Refused(f.number),
+        Err(f) => HeaderAnswer::Refused(f.number),
     }
 }

@@ -19,7 +19,7 @@ use Rattle.rows.specs.declared.FieldNumber.{FieldNumber}
 use Rattle.rows.specs.declared.FieldRow.{FieldRow}
 use Rattle.records.specs.Records.{field}
 use Rattle.parents.specs.Parents.{Inside, chains_of}
-use Rattle.parents.specs.declared.Chains.TheVariants.{AllEnd, Endless}
+use Rattle.std.specs.Prelude.{Some, None}
 use Rattle.header.specs.Header.{Header, lists, payload}
 use Rattle.header.specs.Tables.{chain_fault, endless_fault, chained, parents_of}
 use Rattle.header.proofs.ListLaws.{Parts, lists_parts}
@@ -82,7 +82,7 @@ module _ (strict : Bool) (s : List ℕ) {p₀ p f₀ f r₀ r c₀ c a₀ a : Li
     pub fields_room : scan.lists.fields_at + 8 ≤ length s
     fields_room = list_room_of strict (at_most most_fields) (λ n _. record_of strict (field n)) s scan.lists.fields_at parts.fields_are
 
-    pub chain_refused : (g : FieldNumber) → chains_of p scan.lists.fields ≡ Endless g → chained s (whole strict (payload strict) s 4) ≡ refused (chain_fault s scan.lists.fields_at g.0)
+    pub chain_refused : (g : FieldNumber) → chains_of p scan.lists.fields ≡ Some g → chained s (whole strict (payload strict) s 4) ≡ refused (chain_fault s scan.lists.fields_at g.0)
     unfolding chained
     chain_refused g w =
         let lowest = rows_lowest m.value.lists.fields p scan.lists.fields count some_parents few inside g w in
@@ -90,7 +90,7 @@ module _ (strict : Bool) (s : List ℕ) {p₀ p f₀ f r₀ r c₀ c a₀ a : Li
         = rw (m.was, rows_endless m.value.lists.fields p scan.lists.fields count some_parents few inside g w) in
         first ∙ ap (λ (k : ℕ). refusing (chain_fault s m.value.lists.fields_at k)) lowest ∙ ap (λ (a : ℕ). refusing (chain_fault s a g.0)) (sym place)
 
-    module _ (w : chains_of p scan.lists.fields ≡ AllEnd) where
+    module _ (w : chains_of p scan.lists.fields ≡ None) where
       same : chained s (whole strict (payload strict) s 4) ≡ whole strict (payload strict) s 4
       unfolding chained
       same = rw (m.was, rows_end m.value.lists.fields p scan.lists.fields count some_parents few inside w)

@@ -11,10 +11,8 @@ fn record_at(s: &[u8], start: usize, k: u64) -> usize
     ensures { result ≡ record_at s.now start k }
 {
     let mut at = start;
-    let mut left = k;
-    while 0 < left {
+    for done in 0..k {
         at += numbers::little_4(s, at) as usize;
-        left -= 1;
     }
     at
 }

@@ -5,15 +5,15 @@ mod chain;
 
 ghost use Rattle.std.specs.Prelude.{◌≡◌};
 ghost use Rattle.wire.specs.Reading.{mapped};
+ghost use Rattle.wire.specs.Answers.{as_step};
 ghost use Rattle.envelope.specs.Envelope.{whole};
 ghost use Rattle.header.specs.Header.{payload};
 ghost use Rattle.header.specs.Tables.{chained, header_of};
-ghost use Rattle.header_payload.specs.Answers.{scan_step, scan_of};
+ghost use Rattle.header_payload.specs.Answers.{scan_of};
 ghost use Rattle.header_payload.specs.Settled.{Settled};
 
-use envelope::OpenStep;
-use header_payload::ScanStep;
-use parents::Chains;
+use header_payload::HeaderScan;
+use wire::Step;
 
 // The highest minimum version that is read.
 const SUPPORTED: u64 = 1;
@@ -27,12 +27,12 @@ pub fn scan_header(
     fields: &mut [u64],
     columns: &mut [u64],
     aliases: &mut [u64],
-) -> ScanStep
-    ensures result_value { scan_step result ≡ mapped scan_of (header_of envelope.now) }
+) -> Step<HeaderScan>
+    ensures result_value { as_step result ≡ mapped scan_of (header_of envelope.now) }
     ensures settled { Settled (header_of envelope.now) parents.old parents.new flags.old flags.new fields.old fields.new columns.old columns.new aliases.old aliases.new }
 {
     match envelope::open_envelope(envelope, SUPPORTED) {
-        OpenStep::Found(opening) => scan_chained(
+        Ok(opening) => scan_chained(
             frames::up_to(envelope, opening.stop),
             opening.strict,
             parents,
@@ -41,9 +41,9 @@ pub fn scan_header(
             columns,
             aliases,
         ),
-        OpenStep::Refused(f) => {
+        Err(f) => {
             header_payload::clear(parents, flags, fields, columns, aliases);
-            ScanStep::Refused(f)
+            Err(f)
         }
     }
 }
@@ -57,22 +57,20 @@ fn scan_chained(
     fields: &mut [u64],
     columns: &mut [u64],
     aliases: &mut [u64],
-) -> ScanStep
-    ensures result_value { scan_step result ≡ mapped scan_of (chained s.now (whole strict (payload strict) s.now 4)) }
+) -> Step<HeaderScan>
+    ensures result_value { as_step result ≡ mapped scan_of (chained s.now (whole strict (payload strict) s.now 4)) }
     ensures settled { Settled (chained s.now (whole strict (payload strict) s.now 4)) parents.old parents.new flags.old flags.new fields.old fields.new columns.old columns.new aliases.old aliases.new }
 {
-    match header_payload::scan_payload(s, strict, parents, flags, fields, columns, aliases) {
-        ScanStep::Found(scan, next) => {
-            let lists = scan.lists;
-            let all_parents = *parents;
-            match parents::endless_chain(all_parents, lists.fields) {
-                Chains::AllEnd => ScanStep::Found(scan, next),
-                Chains::Endless(field) => {
-                    header_payload::clear(parents, flags, fields, columns, aliases);
-                    ScanStep::Refused(chain::chain_fault(s, lists.fields_at, field))
-                }
-            }
+    let (scan, next) = header_payload::scan_payload(
+        s, strict, parents, flags, fields, columns, aliases,
+    )?;
+    let lists = scan.lists;
+    let all_parents = *parents;
+    match parents::endless_chain(all_parents, lists.fields) {
+        None => Ok((scan, next)),
+        Some(field) => {
+            header_payload::clear(parents, flags, fields, columns, aliases);
+            Err(chain::chain_fault(s, lists.fields_at, field))
         }
-        ScanStep::Refused(f) => ScanStep::Refused(f),
     }
 }

@@ -20,7 +20,7 @@ use Rattle.header.specs.Tables.{header_of, parents_of, column_table}
 use Rattle.header.proofs.HeaderLaws.{fields_few, columns_few, bits_small}
 use Rattle.header_schema.specs.Schema.{schema_of, no_schema}
 use Rattle.header_schema.specs.declared.Schema.{Schema}
-use Rattle.header_schema.specs.declared.HeaderVerdict.TheVariants.{Accepted, Refused}
+use Rattle.std.specs.Prelude.{Ok, Err}
 
 -- the array's first words are the fields' parents and flags
 module _ (rest : List ℕ) (rows : List FieldRow) where
@@ -32,12 +32,12 @@ module _ (rest : List ℕ) (rows : List FieldRow) where
 
 -- what the schema of an envelope says
 
-says_found : (sum : ℕ) (x : Step Header) → (schema_of sum x).verdict ≡ Accepted → (h : Header) × (p : ℕ) × (x ≡ found h p)
+says_found : (sum : ℕ) (x : Step Header) → (schema_of sum x).verdict ≡ Ok tt → (h : Header) × (p : ℕ) × (x ≡ found h p)
 unfolding schema_of no_schema
 says_found sum (found h p) e = (h, p, refl)
 says_found sum (refused g) e = let z : ◌≡◌ {A = ℕ} 0 1 = cc in absurd (omega arith)
 
-says_refused : (sum : ℕ) (x : Step Header) {g : Fault} → (schema_of sum x).verdict ≡ Refused g → x ≡ refused g
+says_refused : (sum : ℕ) (x : Step Header) {g : Fault} → (schema_of sum x).verdict ≡ Err g → x ≡ refused g
 unfolding schema_of no_schema
 says_refused sum (found h p) e = let z : ◌≡◌ {A = ℕ} 0 1 = cc in absurd (omega arith)
 says_refused sum (refused f) {g} e = let same : f ≡ g = cc in ap refused same
@@ -46,10 +46,10 @@ abbrev no_column : ColumnRow
 no_column = record { column_type = 0; bits = 0; field = record { 0 = 0 }; flags = 0 }
 
 module _ (e : List ℕ) {r : Schema} (is : r ≡ schema_of (checksum_of e) (header_of e)) where
-  pub header_accepted : r.verdict ≡ Accepted → (h : Header) × (p : ℕ) × (header_of e ≡ found h p)
+  pub header_accepted : r.verdict ≡ Ok tt → (h : Header) × (p : ℕ) × (header_of e ≡ found h p)
   header_accepted v = says_found (checksum_of e) (header_of e) (sym (ap (λ (s : Schema). s.verdict) is) ∙ v)
 
-  pub header_refuses : {g : Fault} → r.verdict ≡ Refused g → header_of e ≡ refused g
+  pub header_refuses : {g : Fault} → r.verdict ≡ Err g → header_of e ≡ refused g
   header_refuses v = says_refused (checksum_of e) (header_of e) (sym (ap (λ (s : Schema). s.verdict) is) ∙ v)
 
   module _ {h : Header} {p : ℕ} (w : header_of e ≡ found h p) where

@@ -6,20 +6,13 @@ ghost use Rattle.envelope.specs.Envelope.{checksum_of};
 ghost use Rattle.header.specs.Tables.{header_of};
 ghost use Rattle.header_schema.specs.Schema.{schema_of};
 
-use header_payload::ScanStep;
 use wire::Fault;
-
-#[derive(Clone, Copy)]
-pub enum HeaderVerdict {
-    Accepted,
-    Refused(Fault),
-}
 
 // The checksum of a header, how many fields and columns it has, the parent and
 // the flags of each field, and the row of each column (type, bits, field, flags). All zero where it is refused.
 #[derive(Clone, Copy)]
 pub struct Schema {
-    pub verdict: HeaderVerdict,
+    pub verdict: Result<(), Fault>,
     pub checksum: u64,
     pub fields: usize,
     pub columns: usize,
@@ -45,11 +38,11 @@ pub fn read_schema(envelope: &[u8]) -> Schema
         &mut column_rows,
         &mut no_aliases,
     ) {
-        ScanStep::Found(scan, _) => {
+        Ok((scan, _)) => {
             let lists = scan.lists;
             let checksum = numbers::little_4(envelope, envelope.len() - 4);
             Schema {
-                verdict: HeaderVerdict::Accepted,
+                verdict: Ok(()),
                 checksum,
                 fields: lists.fields,
                 columns: lists.columns,
@@ -58,8 +51,8 @@ pub fn read_schema(envelope: &[u8]) -> Schema
                 column_rows,
             }
         }
-        ScanStep::Refused(f) => Schema {
-            verdict: HeaderVerdict::Refused(f),
+        Err(f) => Schema {
+            verdict: Err(f),
             checksum: 0,
             fields: 0,
             columns: 0,

@@ -9,8 +9,8 @@ use lib.ListN.{length, take}
 use lib.Seq.{get_or-take, length-take-le}
 use Rattle.numbers.proofs.Choice.{which}
 use Rattle.rows.specs.Words.{most_fields}
-use Rattle.parents.specs.declared.Chains.{Chains}
-use Rattle.parents.specs.declared.Chains.TheVariants.{AllEnd, Endless}
+use Rattle.std.specs.Prelude.{Option, Some, None}
+use Rattle.rows.specs.declared.FieldNumber.{FieldNumber}
 use Rattle.parents.specs.Parents.{Inside, inside, endless}
 use Rattle.parents.proofs.InsideLaws.{inside_front, inside_few, inside_is}
 use Rattle.parents.proofs.EndlessLaws.{all_reach_iff}
@@ -22,7 +22,7 @@ pub order_front : (parents : List ℕ) (n : ℕ) (ys : List ℕ) → n ≤ most_
 unfolding order_of
 order_front parents n ys few same count rooted =
     let inner : Inside ys n = λ f l. let r = rooted.fields f (omega arith) in omega arith in
-    let ends : endless ys n n ≡ AllEnd = rw count at ((all_reach_iff ys (length ys)).0 rooted.ends) in
+    let ends : endless ys n n ≡ None = rw count at ((all_reach_iff ys (length ys)).0 rooted.ends) in
     rw (inside_front parents n ys few same count inner, same, ends)
 
 -- parents that pass both tests
@@ -30,7 +30,7 @@ module _ (parents : List ℕ) (n : ℕ) (fine : inside parents n ≡ true) where
   pub front_long : length (take n parents) ≡ n
   front_long = length-take-le n parents (inside_few parents n fine).1
 
-  module _ (ends : endless (take n parents) n n ≡ AllEnd) where
+  module _ (ends : endless (take n parents) n n ≡ None) where
     pub front_rooted : Rooted (take n parents)
     front_rooted =
         let long = front_long in
@@ -47,6 +47,6 @@ pub order_of_few : (parents : List ℕ) (n : ℕ) → length (order_of parents n
 unfolding order_of
 order_of_few parents n = ⊎_elim (λ t. rw t (by t (endless (take n parents) n n) refl)) (λ t. rw t (omega arith)) (which (inside parents n))
   where
-    by : inside parents n ≡ true → (c : Chains) → endless (take n parents) n n ≡ c → length (order_where (order (take n parents)) c) ≤ most_fields
-    by t AllEnd e = front_few parents n t e
-    by t (Endless f) e = omega arith
+    by : inside parents n ≡ true → (c : Option FieldNumber) → endless (take n parents) n n ≡ c → length (order_where (order (take n parents)) c) ≤ most_fields
+    by t None e = front_few parents n t e
+    by t (Some f) e = omega arith

@@ -2,8 +2,8 @@
 use Rattle.std.specs.Prelude.{ℕ, zero, suc, List, [], ◌∷◌, ◌++◌, length, get_or, take, eqb}
 use Rattle.numbers.specs.Choice.{pick}
 use Rattle.parents.specs.Parents.{inside, top_level, endless}
-use Rattle.parents.specs.declared.Chains.{Chains}
-use Rattle.parents.specs.declared.Chains.TheVariants.{AllEnd, Endless}
+use Rattle.std.specs.Prelude.{Option, Some, None}
+use Rattle.rows.specs.declared.FieldNumber.{FieldNumber}
 
 -- a line to come: its field, and its level
 pub record Entry : Type 0 where
@@ -38,9 +38,9 @@ unfoldable pub order : List ℕ → List Entry
 order parents = below (holder parents) (length parents) (length parents) 0 (length parents)
 
 -- the order where every chain ends
-abbrev pub order_where : List Entry → Chains → List Entry
-order_where entries AllEnd = entries
-order_where entries (Endless f) = []
+abbrev pub order_where : List Entry → Option FieldNumber → List Entry
+order_where entries None = entries
+order_where entries (Some f) = []
 
 -- the order of the first n of some parents; none where a chain never ends or a parent is none of the n fields
 unfoldable pub order_of : List ℕ → ℕ → List Entry

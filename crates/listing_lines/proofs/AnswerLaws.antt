@@ -9,11 +9,11 @@ use Rattle.stores.proofs.Storing.{stored_front}
 use Rattle.listing.specs.Answers.{fitted, placed}
 use Rattle.listing.specs.declared.ListAnswer.TheVariants.{Listed, Refused}
 use Rattle.listing_lines.specs.Room.{Taken}
-use Rattle.listing_lines.specs.declared.room.Room.TheVariants.{Left, Full}
+use Rattle.std.specs.Prelude.{Some, None}
 use Rattle.listing_lines.proofs.RoomLaws.{taken_left, taken_full}
 
 module _ (old bytes : List ℕ) where
-  pub listed : {left end : ℕ} {new : List ℕ} → Taken (Left (length old)) (length bytes) (Left left) → Stored old 0 bytes new end
+  pub listed : {left end : ℕ} {new : List ℕ} → Taken (Some (length old)) (length bytes) (Some left) → Stored old 0 bytes new end
       → (Listed end ≡ fitted (length old) bytes) × (new ≡ placed old bytes)
   unfolding fitted placed
   listed t s =
@@ -21,6 +21,6 @@ module _ (old bytes : List ℕ) where
       let (stands, stop) = stored_front s (leb-true (length bytes) (length old) fits) in
       rw fits (ap Listed stop, stands)
 
-  pub unlisted : Taken (Left (length old)) (length bytes) Full → (Refused 20 ≡ fitted (length old) bytes) × (old ≡ placed old bytes)
+  pub unlisted : Taken (Some (length old)) (length bytes) None → (Refused 20 ≡ fitted (length old) bytes) × (old ≡ placed old bytes)
   unfolding fitted placed
   unlisted t = rw (taken_full t) (refl, refl)

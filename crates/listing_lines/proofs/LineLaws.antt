@@ -1,5 +1,5 @@
 -- The pieces of a line, and the lines of a table.
-use Prim.Native.Nat.{ℕ, zero, suc, ◌+◌, ◌*◌, ◌<◌}
+use Prim.Native.Nat.{ℕ, zero, suc, ◌+◌, ◌*◌, ◌<◌, ◌≤◌}
 use mathlib.Core.Path.{◌≡◌, refl, sym, ap, ◌∙◌}
 use mathlib.Core.Bool.{Bool}
 use mathlib.Core.List.{List, [], ◌∷◌, ◌++◌, map-append, append_assoc, append-nil}
@@ -57,3 +57,12 @@ module _ (e rows marks entries : List ℕ) where
   lines_next i says =
       let w = entry_line e (field_row rows) (marked marks) in
       rw (add-one i, says, flat_join w (first_rows entry_row entries i) (entry_row entries i ∷ []), append-nil (w (entry_row entries i)))
+
+  -- so the first lines are no longer than all
+  pub lines_grow : (i k n : ℕ) → n ≡ i + k → length (first_lines i) ≤ length (first_lines n)
+  lines_grow i zero n is = let same : i ≡ n = omega arith in omega (arith, ap (λ (j : ℕ). length (first_lines j)) same)
+  lines_grow i (suc k) n is =
+      let l = line_of rows marks (entry_row entries i) in
+      let one = ap length (lines_next i {l = l} refl) in
+      let more = length-append (first_lines i) (line_bytes e l) in
+      omega (arith, lines_grow (i + 1) k n (omega arith))

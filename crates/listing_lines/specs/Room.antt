@@ -1,14 +1,12 @@
 -- The room that is left.
-use Rattle.std.specs.Prelude.{ℕ, ◌-◌, ◌≡◌, leb}
+use Rattle.std.specs.Prelude.{ℕ, ◌-◌, ◌≡◌, leb, Option, Some, None}
 use Rattle.numbers.specs.Choice.{pick}
-use Rattle.listing_lines.specs.declared.room.Room.{Room}
-use Rattle.listing_lines.specs.declared.room.Room.TheVariants.{Left, Full}
 
--- after so many bytes more
-unfoldable pub room_after : Room → ℕ → Room
-room_after (Left n) len = pick (leb len n) (Left (n - len)) Full
-room_after Full len = Full
+-- after so many bytes more: none where they do not fit
+unfoldable pub room_after : Option ℕ → ℕ → Option ℕ
+room_after (Some n) len = pick (leb len n) (Some (n - len)) None
+room_after None len = None
 
 -- what a call leaves of some room that takes so many bytes of it
-pub record Taken (room : Room) (len : ℕ) (left : Room) : Type 0 where
+pub record Taken (room : Option ℕ) (len : ℕ) (left : Option ℕ) : Type 0 where
   pub is : left ≡ room_after room len

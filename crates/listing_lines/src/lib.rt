@@ -10,7 +10,6 @@ ghost use Rattle.listing.specs.Answers.{fitted, placed};
 ghost use Rattle.listing_lines.specs.Line.{lines_in};
 
 use listing::ListAnswer;
-use room::Room;
 pub use store::{shown_byte, store_spaces};
 
 // Writes the lines of the entries over the first of the lent bytes: 20 where they are too few, and nothing is written then.
@@ -25,10 +24,10 @@ pub fn write_lines(
     ensures leaves { out.new ≡ placed out.old (lines_in envelope.now fields.now marks.now entries.now) }
 {
     match room::lines_room(envelope, fields, marks, entries, out.len()) {
-        Room::Left(_) => {
+        Some(_) => {
             let written = store::store_lines(envelope, fields, marks, entries, out);
             ListAnswer::Listed(written)
         }
-        Room::Full => ListAnswer::Refused(20),
+        None => ListAnswer::Refused(20),
     }
 }

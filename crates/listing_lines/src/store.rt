@@ -27,27 +27,21 @@ fn store_shown(bytes: &[u8], at: usize, out: &mut [u8]) -> usize
     ensures { Stored out.old at (shown bytes.now) out.new result }
 {
     if numbers::has_room(out, at, bytes.len()) {
-        let mut i = 0;
-        while i < bytes.len() {
+        for i in 0..bytes.len() {
             out[at + i] = shown_byte(bytes[i]);
-            i += 1;
         }
-        return at + i;
+        return at + bytes.len();
     }
     at
 }
 
-// So many spaces. The compiler makes one fill of the loop.
+// So many spaces.
 pub fn store_spaces(count: usize, at: usize, out: &mut [u8]) -> usize
     ensures { Stored out.old at (replicate count 32) out.new result }
 {
     if numbers::has_room(out, at, count) {
-        let mut i = 0;
-        while i < count {
-            out[at + i] = 32;
-            i += 1;
-        }
-        return at + i;
+        out[at..at + count].fill(32);
+        return at + count;
     }
     at
 }
@@ -106,12 +100,9 @@ pub fn store_lines(
 ) -> usize
     ensures { Stored out.old 0 (lines_in envelope.now fields.now marks.now entries.now) out.new result }
 {
-    let n = entries.len() / ENTRY_WORDS;
     let mut at = 0;
-    let mut i = 0;
-    while i < n {
+    for i in 0..entries.len() / ENTRY_WORDS {
         at = store_line(envelope, line_of(fields, marks, entries, i), at, out);
-        i += 1;
     }
     at
 }

@@ -1,2 +1,1 @@
 pub mod Locator
-pub mod Answers

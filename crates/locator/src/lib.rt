@@ -4,11 +4,10 @@
 ghost use Rattle.std.specs.Prelude.{◌≡◌, ◌+◌, ◌^◌, ◌<◌};
 ghost use Rattle.numbers.specs.Numbers.{trailer};
 ghost use Rattle.wire.specs.Reading.{tested};
-ghost use Rattle.wire.specs.Answers.{number_step};
+ghost use Rattle.wire.specs.Answers.{as_step};
 ghost use Rattle.locator.specs.Locator.{stored_as, in_file, locator};
-ghost use Rattle.locator.specs.Answers.{range_step};
 
-use wire::{Fault, NumberStep};
+use wire::Step;
 
 // A range of the file, as a locator has it.
 #[derive(Clone, Copy)]
@@ -17,37 +16,26 @@ pub struct Range {
     pub offset: u64,
 }
 
-// A range and the place after its locator, or a refusal.
-#[derive(Clone, Copy)]
-pub enum RangeStep {
-    Found(Range, usize),
-    Refused(Fault),
-}
-
 // A locator whose stored size is the one that is due, and whose range is inside a file of `file` bytes, with the checksum behind it if one
 // follows.
-pub fn locator_at(s: &[u8], at: usize, file: u64, size: u64, checksum: bool) -> RangeStep
-    ensures { range_step result ≡ locator file size (trailer checksum) s.now at }
+pub fn locator_at(s: &[u8], at: usize, file: u64, size: u64, checksum: bool) -> Step<Range>
+    ensures { as_step result ≡ locator file size (trailer checksum) s.now at }
 {
-    match stored_size_at(s, at, size) {
-        NumberStep::Found(stored, offset_place) => match offset_at(
-            s,
-            offset_place,
-            file,
-            stored,
-            numbers::trailer_size(checksum) as u64,
-        ) {
-            NumberStep::Found(offset, next) => RangeStep::Found(
-                Range {
-                    size: stored,
-                    offset,
-                },
-                next,
-            ),
-            NumberStep::Refused(f) => RangeStep::Refused(f),
+    let (stored, offset_place) = stored_size_at(s, at, size)?;
+    let (offset, next) = offset_at(
+        s,
+        offset_place,
+        file,
+        stored,
+        numbers::trailer_size(checksum) as u64,
+    )?;
+    Ok((
+        Range {
+            size: stored,
+            offset,
         },
-        NumberStep::Refused(f) => RangeStep::Refused(f),
-    }
+        next,
+    ))
 }
 
 // The verdict on a locator's first word: bit 31 is not set, and the stored size is the one that is due.
@@ -92,26 +80,17 @@ fn starts_in_file(file: u64, size: u64, behind: u64, offset: u64) -> u16
     18
 }
 
-fn stored_size_at(s: &[u8], at: usize, size: u64) -> NumberStep
-    ensures { number_step result ≡ tested 4 (stored_as size) s.now at }
+fn stored_size_at(s: &[u8], at: usize, size: u64) -> Step<u64>
+    ensures { as_step result ≡ tested 4 (stored_as size) s.now at }
 {
-    match wire::number_4(s, at) {
-        NumberStep::Found(word, next) => wire::judge(word, at, next, stored_as(size, word)),
-        NumberStep::Refused(f) => NumberStep::Refused(f),
-    }
+    let (word, next) = wire::number_4(s, at)?;
+    wire::judge(word, at, next, stored_as(size, word))
 }
 
-fn offset_at(s: &[u8], at: usize, file: u64, size: u64, behind: u64) -> NumberStep
+fn offset_at(s: &[u8], at: usize, file: u64, size: u64, behind: u64) -> Step<u64>
     requires { size + behind < 2 ^ 64 }
-    ensures { number_step result ≡ tested 8 (in_file file size behind) s.now at }
+    ensures { as_step result ≡ tested 8 (in_file file size behind) s.now at }
 {
-    match wire::number_8(s, at) {
-        NumberStep::Found(offset, next) => wire::judge(
-            offset,
-            at,
-            next,
-            starts_in_file(file, size, behind, offset),
-        ),
-        NumberStep::Refused(f) => NumberStep::Refused(f),
-    }
+    let (offset, next) = wire::number_8(s, at)?;
+    wire::judge(offset, at, next, starts_in_file(file, size, behind, offset))
 }

@@ -4,8 +4,6 @@
 ghost use Rattle.header.specs.Tables.{header_of};
 ghost use Rattle.moves.specs.Moves.{Answered};
 
-use header_payload::ScanStep;
-
 #[derive(Clone, Copy)]
 pub enum MovesAnswer {
     // The sum over all fields of the moves from the field to its self-parented top.
@@ -28,11 +26,11 @@ pub fn parent_moves(envelope: &[u8]) -> MovesAnswer
         &mut [0; 0],
         &mut [0; 0],
     ) {
-        ScanStep::Found(scan, _) => {
+        Ok((scan, _)) => {
             let lists = scan.lists;
             let total = chain_moves::total_moves(&parents, lists.fields);
             MovesAnswer::Moves(total as u64)
         }
-        ScanStep::Refused(f) => MovesAnswer::Refused(f.number),
+        Err(f) => MovesAnswer::Refused(f.number),
     }
 }

@@ -1,6 +1,6 @@
 -- The numbers of a plain page laid into lent words part after part.
 -- Assumes nothing.
-use Rattle.std.proofs.Common.{◌≡◌, ℕ, zero, suc, ◌+◌, ◌-◌, ◌*◌, ◌/◌, ◌%◌, ◌<◌, ◌≤◌, Bool, true, false, eqb, List, ◌∷◌, ◌++◌, length, get_or, take, drop, set, sym, ap, ◌∙◌, subst, append-nil, suc-mul, suc-add, zero-add, zero-mul, mul-one, arith, length-drop, drop_of_length-le, length-take-le, get_or-take, drop-drop, ext_get_or, ne_eqb}
+use Rattle.std.proofs.Common.{◌≡◌, ℕ, zero, suc, ◌+◌, ◌-◌, ◌*◌, ◌/◌, ◌%◌, ◌<◌, ◌≤◌, List, ◌∷◌, ◌++◌, length, get_or, take, drop, set, sym, ap, ◌∙◌, subst, append-nil, suc-mul, suc-add, zero-add, zero-mul, mul-one, arith, drop_of_length-le, length-take-le, get_or-take, drop-drop, ext_get_or, ne_eqb}
 use borrow.Rule.Slice.PartMut.{put_mid}
 use Rattle.numbers.specs.Choice.{pick}
 use Rattle.numbers.specs.Numbers.{little}
@@ -29,10 +29,6 @@ laid_more i first next all out₀ out new long joined room h e =
     ∙ over_more i first next out₀ long
     ∙ ap (λ (l : List ℕ). over l out₀) joined in
     (is, ap length is ∙ over_length all out₀ room)
-
--- the part that is lent has room for them
-pub laid_room : (i n : ℕ) (out : List ℕ) → i + n ≤ length out → n ≤ length (take (length out - i) (drop i out))
-laid_room i n out h = rw (rest_of i out) (omega (arith, length-drop i out))
 
 -- numbers of k bytes behind the first i
 pub unplain_more : (k i n : ℕ) (bs : List ℕ) → unplain k i bs ++ unplain k n (drop (i * k) bs) ≡ unplain k (i + n) bs
@@ -78,13 +74,6 @@ block_one k e = ap block_of e
 
 pub block_more : (k : ℕ) → (k ≡ 1 → ⊥) → block_of k ≡ 8
 block_more k n = ap (λ b. pick b 16 8) (ne_eqb k 1 n)
-
-pub block_some : (k : ℕ) → 1 ≤ block_of k
-block_some k = go (eqb k 1)
-  where
-    go : (t : Bool) → 1 ≤ pick t 16 8
-    go true = omega arith
-    go false = omega arith
 
 -- a list over one that is no longer
 pub over_all : (l d : List ℕ) → length d ≤ length l → over l d ≡ l

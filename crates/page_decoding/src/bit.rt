@@ -9,10 +9,8 @@ fn bits_out(page: &[u8], m: usize, count: usize, out: &mut [u64])
     ensures { out.new ≡ over (unpacked count (8 * m) page.now) out.old }
 {
     let byte = page[m] as u64;
-    let mut j = 0;
-    while j < count {
+    for j in 0..count {
         out[j] = (byte >> j) % 2;
-        j += 1;
     }
 }
 
@@ -22,11 +20,9 @@ pub fn unpack(page: &[u8], n: usize, out: &mut [u64])
     ensures { out.new ≡ over (unpacked n 0 page.now) out.old }
 {
     let whole = n / 8;
-    let mut m = 0;
-    while m < whole {
+    for m in 0..whole {
         let from = 8 * m;
         bits_out(page, m, 8, &mut out[from..]);
-        m += 1;
     }
     let rest = n % 8;
     if 0 < rest {

@@ -28,10 +28,8 @@ pub fn sum_up(width: u64, n: usize, out: &mut [u64])
     ensures { out.new ≡ over (sums width 0 (take n out.old)) out.old }
 {
     let mut before: u64 = 0;
-    let mut i = 0;
-    while i < n {
+    for i in 0..n {
         before = sum(width, before, out[i]);
         out[i] = before;
-        i += 1;
     }
 }

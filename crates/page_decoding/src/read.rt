@@ -34,10 +34,8 @@ fn numbers_each(bytes: &[u8], k: usize, n: usize, out: &mut [u64])
     requires { WholeBytes k × (n ≤ length out.old) × (n * k ≤ length bytes.now) }
     ensures { out.new ≡ over (unplain k n bytes.now) out.old }
 {
-    let mut i = 0;
-    while i < n {
+    for i in 0..n {
         out[i] = number_at(k, bytes, i * k);
-        i += 1;
     }
 }
 
@@ -46,10 +44,8 @@ fn put_words(words: &[u64], out: &mut [u64])
     requires { length words.now ≤ length out.old }
     ensures { out.new ≡ over words.now out.old }
 {
-    let mut j = 0;
-    while j < words.len() {
+    for j in 0..words.len() {
         out[j] = words[j];
-        j += 1;
     }
 }
 
@@ -58,11 +54,9 @@ fn put_bytes(words: &[u64], out: &mut [u64])
     requires { length words.now * 2 ≤ length out.old }
     ensures { out.new ≡ over (plain 2 words.now) out.old }
 {
-    let mut j = 0;
-    while j < words.len() {
+    for j in 0..words.len() {
         out[2 * j] = words[j] % 256;
         out[2 * j + 1] = words[j] / 256 % 256;
-        j += 1;
     }
 }
 
@@ -95,13 +89,14 @@ fn numbers_out(bytes: &[u8], k: usize, n: usize, out: &mut [u64])
     ensures { out.new ≡ over (unplain k n bytes.now) out.old }
 {
     let block = block_of(k);
-    let mut i = 0;
-    while block <= n - i {
+    let whole = n / block;
+    for m in 0..whole {
+        let i = m * block;
         let at = i * k;
         let to = at + block * k;
         block_out(&bytes[at..to], k, &mut out[i..]);
-        i += block;
     }
+    let i = whole * block;
     let at = i * k;
     numbers_each(&bytes[at..], k, n - i, &mut out[i..]);
 }
@@ -131,12 +126,10 @@ fn split_out(page: &[u8], k: usize, n: usize, out: &mut [u64])
     ensures { out.new ≡ over (unplanes k n page.now) out.old }
 {
     clear_above(k, &mut out[..n]);
-    let mut p = 0;
-    while p < k {
+    for p in 0..k {
         let from = p * n;
         let to = from + n;
         place_plane(p, &page[from..to], out);
-        p += 1;
     }
 }
 

@@ -38,9 +38,7 @@ pub fn unzigzag_all(width: u64, n: usize, out: &mut [u64])
     requires { SplitWidth width × (n ≤ length out.old) × ((i : ℕ) → i < n → slice_index out.old i < 2 ^ width) }
     ensures { out.new ≡ over (map (unzigzagged width) (take n out.old)) out.old }
 {
-    let mut i = 0;
-    while i < n {
+    for i in 0..n {
         out[i] = unzigzag(width, out[i]);
-        i += 1;
     }
 }

@@ -10,9 +10,7 @@ fn bits_byte(words: &[u64], from: usize, count: usize) -> u8
     ensures { result ≡ bits_byte count (drop from words.now) }
 {
     let mut x: u64 = 0;
-    let mut j = count;
-    while 0 < j {
-        j -= 1;
+    for j in (0..count).rev() {
         x = x * 2 + words[from + j];
     }
     x as u8
@@ -24,10 +22,8 @@ pub fn pack(words: &[u64], out: &mut [u8])
     ensures { out.new ≡ over (packed ((length words.now + 7) / 8) words.now) out.old }
 {
     let whole = words.len() / 8;
-    let mut m = 0;
-    while m < whole {
+    for m in 0..whole {
         out[m] = bits_byte(words, 8 * m, 8);
-        m += 1;
     }
     let rest = words.len() % 8;
     if 0 < rest {

@@ -8,10 +8,8 @@ pub fn put_number(k: usize, x: u64, at: usize, out: &mut [u8])
     ensures { out.new ≡ puts k x at out.old }
 {
     let mut rest = x;
-    let mut j: usize = 0;
-    while j < k {
+    for j in 0..k {
         out[at + j] = (rest % 256) as u8;
         rest = rest / 256;
-        j += 1;
     }
 }

@@ -33,10 +33,8 @@ fn write_each(k: usize, words: &[u64], out: &mut [u8])
     requires { length words.now * k ≤ length out.old }
     ensures { out.new ≡ over (plain k words.now) out.old }
 {
-    let mut i = 0;
-    while i < words.len() {
+    for i in 0..words.len() {
         put_number(k, words[i], i * k, out);
-        i += 1;
     }
 }
 
@@ -46,14 +44,14 @@ fn write_eights(k: usize, words: &[u64], out: &mut [u8]) -> usize
     requires { length words.now * k ≤ length out.old }
     ensures { (result ≤ length words.now) × (out.new ≡ over (plain k (take result words.now)) out.old) }
 {
-    let mut i = 0;
-    while 8 <= words.len() - i {
+    let whole = words.len() / 8;
+    for m in 0..whole {
+        let i = 8 * m;
         let eight = eight_words(words, i);
         let at = i * k;
         write_each(k, &eight, &mut out[at..]);
-        i += 8;
     }
-    i
+    8 * whole
 }
 
 // The same with k a literal: the compiler makes a loop for each. Of elements of one byte it makes no wider stores, and they go one after the other.

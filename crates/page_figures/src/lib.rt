@@ -11,8 +11,7 @@ ghost use Rattle.page_list.specs.Tables.{page_list_beside};
 ghost use Rattle.page_list.specs.Judged.{listed};
 ghost use Rattle.page_figures.specs.Answers.{Answered};
 
-use header_schema::HeaderVerdict;
-use page_list::{Judged, Verdict};
+use page_list::Judged;
 
 #[derive(Clone, Copy)]
 pub enum FiguresAnswer {
@@ -44,7 +43,7 @@ pub fn page_figures(
     let schema = header_schema::read_schema(header);
     let verdict = schema.verdict;
     match verdict {
-        HeaderVerdict::Accepted => {
+        Ok(()) => {
             let n = schema.fields;
             let parents = schema.parents;
             let flags = schema.flags;
@@ -59,13 +58,13 @@ pub fn page_figures(
                 entries,
                 file_length,
             ) {
-                Verdict::Agreed(judged) => {
+                Ok(judged) => {
                     write_figures(page_list, judged, &rows, columns, file_length, figures)
                 }
-                Verdict::Refused(number) => FiguresAnswer::Refused(3, number),
+                Err(f) => FiguresAnswer::Refused(3, f.number),
             }
         }
-        HeaderVerdict::Refused(f) => FiguresAnswer::Refused(1, f.number),
+        Err(f) => FiguresAnswer::Refused(1, f.number),
     }
 }
 

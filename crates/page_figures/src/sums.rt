@@ -10,8 +10,7 @@ ghost use Rattle.figure_rules.specs.Report.{figure_width, figures_of, list_figur
 ghost use Rattle.page_figures.specs.Answers.{figure_words};
 
 use crate::Figures;
-use frames::{ListHead, ListStep};
-use pages::PageStep;
+use frames::ListHead;
 use rows::ColumnNumber;
 
 fn no_figures() -> Figures
@@ -41,20 +40,16 @@ fn sum_pages(
     let mut elements: u64 = 0;
     let mut sizes: u64 = 0;
     let mut checksums: u64 = 0;
-    let mut i = 0;
     let mut at = head.start;
-    while i < count {
+    for i in 0..count {
         match pages::page_at(s, at, column, bits, file) {
-            PageStep::Found(row, next) => {
+            Ok((row, next)) => {
                 elements += row.elements;
                 sizes += row.size;
                 checksums += cluster_rows::bit(row.checksum);
                 at = next;
-                i += 1;
             }
-            PageStep::Refused(_) => {
-                return no_figures();
-            }
+            Err(_) => return no_figures(),
         }
     }
     Figures {
@@ -81,24 +76,20 @@ fn sum_columns(
 {
     let count = head.count;
     let mut total: usize = 0;
-    let mut i = 0;
     let mut at = head.start;
-    while i < count {
+    for i in 0..count {
         let column = ColumnNumber(i as u64);
         let row = column_rows::column_row(columns, column);
         let bits = (row.bits % 65536) as u16;
         match pages::page_list_head(s, at, total) {
-            ListStep::Found(pages, stop) => {
+            Ok((pages, stop)) => {
                 let f = sum_pages(frames::up_to(s, stop), at, pages, column, bits, file);
                 let from = figure_rules::FIGURE_WORDS * i;
                 rows::put_words(figures, from, &[f.pages, f.elements, f.sizes, f.checksums]);
                 total += pages.count;
                 at = stop;
-                i += 1;
             }
-            ListStep::Refused(_) => {
-                return;
-            }
+            Err(_) => return,
         }
     }
 }
@@ -116,10 +107,10 @@ pub fn sum_payload(
     ensures { figures.new ≡ over (list_figures (rows_of (payload file (bits_in columns.now n) strict s.now 4))) figures.old }
 {
     match column_pages::column_list_head(s, n) {
-        ListStep::Found(head, stop) => {
+        Ok((head, stop)) => {
             let inner = frames::up_to(s, stop);
             sum_columns(figures, inner, strict, 4, head, columns, file);
         }
-        ListStep::Refused(_) => {}
+        Err(_) => {}
     }
 }

@@ -17,7 +17,7 @@ use Rattle.column_pages.specs.ColumnPages.{pages_of, payload}
 use Rattle.page_list.specs.Tables.{page_table, answer, written, Answered}
 use Rattle.page_list.specs.Judged.{listed, Stands, Judges}
 use Rattle.page_list.specs.declared.Judged.{Judged}
-use Rattle.page_list.specs.declared.Verdict.TheVariants.{Agreed, Refused as Judged-refused}
+use Rattle.std.specs.Prelude.{Ok, Err}
 use Rattle.page_list.specs.declared.PageListAnswer.TheVariants.{Accepted, Refused}
 
 -- a refusal changes no table
@@ -32,10 +32,10 @@ pub record Refuses (x : Step (List (List PageRow))) (k : ℕ) : Type 0 where
   pub was : x ≡ refused fault
   pub number : k ≡ fault.number
 
-pub refuses : (file : ℕ) (bits e : List ℕ) (x : Step (List (List PageRow))) {k : ℕ} → Judges file bits e x (Judged-refused k) → Refuses x k
+pub refuses : (file : ℕ) (bits e : List ℕ) (x : Step (List (List PageRow))) (g : Fault) → Judges file bits e x (Err g) → Refuses x g.number
 unfolding Judges
-refuses file bits e (found pss p) j = absurd j
-refuses file bits e (refused f) j = record { fault = f; was = refl; number = j }
+refuses file bits e (found pss p) g j = absurd j
+refuses file bits e (refused f) g j = record { fault = f; was = refl; number = ap (λ (y : Fault). y.number) j }
 
 pub record Agrees (file : ℕ) (bits e : List ℕ) (x : Step (List (List PageRow))) (j : Judged) : Type 0 where
   pub value : List (List PageRow)
@@ -43,7 +43,7 @@ pub record Agrees (file : ℕ) (bits e : List ℕ) (x : Step (List (List PageRow
   pub was : x ≡ found value place
   pub stands : Stands file bits e j value
 
-pub agrees : (file : ℕ) (bits e : List ℕ) (x : Step (List (List PageRow))) {j : Judged} → Judges file bits e x (Agreed j) → Agrees file bits e x j
+pub agrees : (file : ℕ) (bits e : List ℕ) (x : Step (List (List PageRow))) {j : Judged} → Judges file bits e x (Ok j) → Agrees file bits e x j
 unfolding Judges
 agrees file bits e (found pss p) t = record { value = pss; place = p; was = refl; stands = t }
 agrees file bits e (refused f) t = absurd t

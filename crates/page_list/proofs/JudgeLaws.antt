@@ -10,7 +10,8 @@ use lib.Seq.{take_at}
 use Rattle.numbers.specs.Rows.{over}
 use Rattle.numbers.proofs.Parts.{over_length}
 use Rattle.wire.specs.declared.Fault.{Fault}
-use Rattle.wire.specs.declared.NumberStep.TheVariants.{Found, Refused as Missed}
+use Rattle.std.specs.Prelude.{Ok, Err}
+use Rattle.wire.specs.Answers.{as_step}
 use Rattle.wire.specs.Reading.{Step, found, refused, accepted, rows_of}
 use Rattle.outcome.specs.Outcome.{accepted_with}
 use Rattle.envelope.specs.Envelope.{Versions, whole, opened, envelope, versioned}
@@ -25,8 +26,7 @@ use Rattle.rows.specs.declared.FieldNumber.{FieldNumber}
 use Rattle.rows.specs.declared.ColumnRow.{ColumnRow}
 use Rattle.rows.specs.declared.PageRow.{PageRow}
 use Rattle.totals.specs.Totals.{totals}
-use Rattle.totals.specs.declared.Totals.{Totals}
-use Rattle.totals.specs.declared.Totals.TheVariants.{Agree, Differ}
+use Rattle.std.specs.Prelude.{Option, Some, None}
 use Rattle.pages.specs.Pages.{elements_of}
 use Rattle.column_pages.specs.ColumnPages.{bits_of, pages_of, pages_after, per_column, payload}
 use Rattle.column_pages.specs.Answers.{bits_in, sums_of}
@@ -36,7 +36,6 @@ use Rattle.page_list.specs.PageList.{total_fault, summed}
 use Rattle.page_list.specs.Schema.{SchemaOf}
 use Rattle.page_list.specs.Judged.{summed_by, Stands, Judges}
 use Rattle.page_list.specs.declared.Judged.{Judged}
-use Rattle.page_list.specs.declared.Verdict.TheVariants.{Agreed, Refused}
 
 -- what a scan found, or what it refused
 record Scanned (x : Step (List (List PageRow))) (r : Sums) (k q : ℕ) : Type 0 where
@@ -45,48 +44,48 @@ record Scanned (x : Step (List (List PageRow))) (r : Sums) (k q : ℕ) : Type 0 
   count : k ≡ pages_of value
   elements : r.elements ≡ over (map elements_of value) (replicate most_columns 0)
 
-scan_found : (x : Step (List (List PageRow))) {r : Sums} {k q : ℕ} → r ≡ sums_of x → r.pages ≡ Found k q → Scanned x r k q
+scan_found : (x : Step (List (List PageRow))) {r : Sums} {k q : ℕ} → r ≡ sums_of x → r.pages ≡ Ok (k, q) → Scanned x r k q
 scan_found (found pss p) {r} {k} {q} is e =
-    let g : Found (pages_of pss) p ≡ Found k q = sym (ap (λ (y : Sums). y.pages) is) ∙ e in
+    let g : found (pages_of pss) p ≡ found k q = ap as_step (sym (ap (λ (y : Sums). y.pages) is) ∙ e) in
     let a : pages_of pss ≡ k = cc in
     let b : p ≡ q = cc in
     record { value = pss; was = ap (found pss) b; count = sym a; elements = ap (λ (y : Sums). y.elements) is }
 scan_found (refused f) {r} {k} {q} is e =
-    let g : Missed f ≡ Found k q = sym (ap (λ (y : Sums). y.pages) is) ∙ e in
+    let g : refused f ≡ found k q = ap as_step (sym (ap (λ (y : Sums). y.pages) is) ∙ e) in
     let z : ◌≡◌ {A = ℕ} 0 1 = cc in
     absurd (omega arith)
 
-scan_refused : (x : Step (List (List PageRow))) {r : Sums} {f : Fault} → r ≡ sums_of x → r.pages ≡ Missed f → x ≡ refused f
+scan_refused : (x : Step (List (List PageRow))) {r : Sums} {f : Fault} → r ≡ sums_of x → r.pages ≡ Err f → x ≡ refused f
 scan_refused (found pss p) {r} {f} is e =
-    let g : Found (pages_of pss) p ≡ Missed f = sym (ap (λ (y : Sums). y.pages) is) ∙ e in
+    let g : found (pages_of pss) p ≡ refused f = ap as_step (sym (ap (λ (y : Sums). y.pages) is) ∙ e) in
     let z : ◌≡◌ {A = ℕ} 0 1 = cc in
     absurd (omega arith)
 scan_refused (refused h) {r} {f} is e =
-    let g : Missed h ≡ Missed f = sym (ap (λ (y : Sums). y.pages) is) ∙ e in
+    let g : ◌≡◌ {A = Step ℕ} (refused h) (refused f) = ap as_step (sym (ap (λ (y : Sums). y.pages) is) ∙ e) in
     let same : h ≡ f = cc in
     ap (λ (x : Fault). refused x) same
 
 -- a verdict that refuses, and one that accepts
 
-pub judges_refused : {x : Step (List (List PageRow))} {f : Fault} (file : ℕ) (bits e : List ℕ) → x ≡ refused f → Judges file bits e x (Refused f.number)
+pub judges_refused : {x : Step (List (List PageRow))} {f : Fault} (file : ℕ) (bits e : List ℕ) → x ≡ refused f → Judges file bits e x (Err f)
 unfolding Judges
 judges_refused file bits e w = rw w refl
 
 judges_agreed : {x : Step (List (List PageRow))} {pss : List (List PageRow)} {p : ℕ} (file : ℕ) (bits e : List ℕ) (j : Judged) → x ≡ found pss p → Stands file bits e j pss
-    → Judges file bits e x (Agreed j)
+    → Judges file bits e x (Ok j)
 unfolding Judges
 judges_agreed file bits e j w t = rw w t
 
 -- a payload that a scan refuses
 pub judged_refused : (strict : Bool) (file : ℕ) (s table : List ℕ) (n entries : ℕ) (columns : List ColumnRow) (parents flags : List ℕ) {r : Sums} {g : Fault} (e : List ℕ)
-    → r ≡ sums_of (whole strict (payload file (bits_in table n) strict) s 4) → r.pages ≡ Missed g
-    → Judges file (bits_in table n) e (summed_by entries columns parents flags (whole strict (payload file (bits_in table n) strict) s 4)) (Refused g.number)
+    → r ≡ sums_of (whole strict (payload file (bits_in table n) strict) s 4) → r.pages ≡ Err g
+    → Judges file (bits_in table n) e (summed_by entries columns parents flags (whole strict (payload file (bits_in table n) strict) s 4)) (Err g)
 unfolding summed_by
 judged_refused strict file s table n entries columns parents flags e is w =
     judges_refused file (bits_in table n) e (ap (summed_by entries columns parents flags) (scan_refused (whole strict (payload file (bits_in table n) strict) s 4) is w))
 
 -- a payload that was found by a scan
-module _ (strict : Bool) (file : ℕ) (s table : List ℕ) (n : ℕ) {r : Sums} (is : r ≡ sums_of (whole strict (payload file (bits_in table n) strict) s 4)) {k q : ℕ} (e : r.pages ≡ Found k q) where
+module _ (strict : Bool) (file : ℕ) (s table : List ℕ) (n : ℕ) {r : Sums} (is : r ≡ sums_of (whole strict (payload file (bits_in table n) strict) s 4)) {k q : ℕ} (e : r.pages ≡ Ok (k, q)) where
   m : Scanned (whole strict (payload file (bits_in table n) strict) s 4) r k q
   m = scan_found (whole strict (payload file (bits_in table n) strict) s 4) is e
 
@@ -110,17 +109,17 @@ module _ (strict : Bool) (file : ℕ) (s table : List ℕ) (n : ℕ) {r : Sums} 
   sums_are : take n r.elements ≡ map elements_of m.value
   sums_are = ap (take n) m.elements ∙ take_at (map elements_of m.value) _ n (length-map m.value elements_of ∙ passed.1)
 
-  module _ (entries : ℕ) (parents flags : List ℕ) {t : Totals} (told : t ≡ totals entries (columns_in table n) (take n r.elements) 0 (take most_fields parents) flags) where
+  module _ (entries : ℕ) (parents flags : List ℕ) {t : Option FieldNumber} (told : t ≡ totals entries (columns_in table n) (take n r.elements) 0 (take most_fields parents) flags) where
     outcome : totals entries (columns_in table n) (map elements_of m.value) 0 (take most_fields parents) flags ≡ t
     outcome = sym (told ∙ (λ j. totals entries (columns_in table n) (sums_are j) 0 (take most_fields parents) flags))
 
-    pub judged_wrong : {f : FieldNumber} (e' : List ℕ) → t ≡ Differ f
-        → Judges file (bits_in table n) e' (summed_by entries (columns_in table n) (take most_fields parents) flags (whole strict (payload file (bits_in table n) strict) s 4)) (Refused 19)
+    pub judged_wrong : {f : FieldNumber} (e' : List ℕ) → t ≡ Some f
+        → Judges file (bits_in table n) e' (summed_by entries (columns_in table n) (take most_fields parents) flags (whole strict (payload file (bits_in table n) strict) s 4)) (Err (total_fault f.0))
     unfolding summed_by
     judged_wrong {f} e' d = judges_refused {f = total_fault f.0} file (bits_in table n) e' (rw (m.was, outcome, d))
 
-    pub judged_right : (stop : ℕ) (e' : List ℕ) → s ≡ take stop e' → t ≡ Agree
-        → Judges file (bits_in table n) e' (summed_by entries (columns_in table n) (take most_fields parents) flags (whole strict (payload file (bits_in table n) strict) s 4)) (Agreed (record { stop = stop; strict = strict; pages = k }))
+    pub judged_right : (stop : ℕ) (e' : List ℕ) → s ≡ take stop e' → t ≡ None
+        → Judges file (bits_in table n) e' (summed_by entries (columns_in table n) (take most_fields parents) flags (whole strict (payload file (bits_in table n) strict) s 4)) (Ok (record { stop = stop; strict = strict; pages = k }))
     unfolding summed_by
     judged_right stop e' cut a =
         let there : payload file (bits_in table n) strict (take stop e') 4 ≡ found m.value stood.end = ap (λ (x : List ℕ). payload file (bits_in table n) strict x 4) (sym cut) ∙ stood.was in
@@ -134,7 +133,7 @@ unfolding versioned
 envelope_open file bits e o = rw o
 
 pub envelope_refused : (file : ℕ) (bits e bits' : List ℕ) (entries : ℕ) (columns : List ColumnRow) (parents flags : List ℕ) {g : Fault} → opened 1 e ≡ refused g
-    → Judges file bits' e (summed_by entries columns parents flags (envelope 1 (payload file bits) e)) (Refused g.number)
+    → Judges file bits' e (summed_by entries columns parents flags (envelope 1 (payload file bits) e)) (Err g)
 unfolding versioned summed_by
 envelope_refused file bits e bits' entries columns parents flags {g} o = judges_refused {f = g} file bits' e (rw o)
 

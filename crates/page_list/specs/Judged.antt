@@ -1,5 +1,6 @@
 -- The verdict on a page list beside a header, before any row of it is written.
-use Rattle.std.specs.Prelude.{ℕ, List, map, true, ◌≡◌, take}
+use Rattle.std.specs.Prelude.{ℕ, List, map, true, ◌≡◌, take, Result, Ok, Err}
+use Rattle.wire.specs.declared.Fault.{Fault}
 use Rattle.wire.specs.Reading.{Step, found, refused, accepted, rows_of}
 use Rattle.rows.specs.declared.ColumnRow.{ColumnRow}
 use Rattle.rows.specs.declared.PageRow.{PageRow}
@@ -8,8 +9,6 @@ use Rattle.totals.specs.Totals.{totals}
 use Rattle.column_pages.specs.ColumnPages.{pages_of, payload}
 use Rattle.page_list.specs.PageList.{agreed}
 use Rattle.page_list.specs.declared.Judged.{Judged}
-use Rattle.page_list.specs.declared.Verdict.{Verdict}
-use Rattle.page_list.specs.declared.Verdict.TheVariants.{Agreed, Refused}
 
 -- after the payload, by rows of columns, and the parent and the flags of each field: the totals agree with the cluster's entry count
 unfoldable pub summed_by : ℕ → List ColumnRow → List ℕ → List ℕ → Step (List (List PageRow)) → Step (List (List PageRow))
@@ -27,8 +26,8 @@ pub record Stands (file : ℕ) (bits e : List ℕ) (j : Judged) (pss : List (Lis
   pub count : j.pages ≡ pages_of pss
 
 -- a verdict on a page list that was read, or refused
-unfoldable pub Judges : ℕ → List ℕ → List ℕ → Step (List (List PageRow)) → Verdict → Type 0
-Judges file bits e (found pss p) (Agreed j) = Stands file bits e j pss
-Judges file bits e (found pss p) (Refused k) = ⊥
-Judges file bits e (refused f) (Agreed j) = ⊥
-Judges file bits e (refused f) (Refused k) = k ≡ f.number
+unfoldable pub Judges : ℕ → List ℕ → List ℕ → Step (List (List PageRow)) → Result Judged Fault → Type 0
+Judges file bits e (found pss p) (Ok j) = Stands file bits e j pss
+Judges file bits e (found pss p) (Err g) = ⊥
+Judges file bits e (refused f) (Ok j) = ⊥
+Judges file bits e (refused f) (Err g) = g ≡ f

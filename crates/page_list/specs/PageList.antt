@@ -10,21 +10,21 @@ use Rattle.rows.specs.declared.PageRow.{PageRow}
 use Rattle.pages.specs.Pages.{elements_of}
 use Rattle.column_pages.specs.ColumnPages.{bits_of, payload}
 use Rattle.totals.specs.Totals.{totals}
-use Rattle.totals.specs.declared.Totals.{Totals}
-use Rattle.totals.specs.declared.Totals.TheVariants.{Agree, Differ}
+use Rattle.std.specs.Prelude.{Option, Some, None}
+use Rattle.rows.specs.declared.FieldNumber.{FieldNumber}
 
 -- what is refused where the totals of field f do not agree
 abbrev pub total_fault : ℕ → Fault
 total_fault f = record { number = 19; place = 0; kind = Total; list = 0; item = f }
 
 -- whether the totals of pages agree beside a header's lists; if not, the lowest field at fault
-abbrev pub totals_of : ℕ → Lists → List (List PageRow) → Totals
+abbrev pub totals_of : ℕ → Lists → List (List PageRow) → Option FieldNumber
 totals_of entries l pss = totals entries l.columns (map elements_of pss) 0 (parents_of l.fields) (flags_of l.fields)
 
 -- after the totals
-abbrev pub agreed : {A : Type 0} → Totals → Step A → Step A
-agreed Agree x = x
-agreed (Differ f) x = refused (total_fault f.0)
+abbrev pub agreed : {A : Type 0} → Option FieldNumber → Step A → Step A
+agreed None x = x
+agreed (Some f) x = refused (total_fault f.0)
 
 -- after the payload: the totals agree with the cluster's entry count
 unfoldable pub summed : ℕ → Lists → Step (List (List PageRow)) → Step (List (List PageRow))

@@ -1,5 +1,5 @@
 // The rows of each column: that they stand in the order of their columns, and the pages of one column after the other.
-ghost use Rattle.std.specs.Prelude.{◌≡◌, true, [], ◌+◌, ◌≤◌, drop};
+ghost use Rattle.std.specs.Prelude.{◌≡◌, true, [], ◌+◌, ◌/◌, ◌≤◌, length, drop};
 ghost use Rattle.rows.specs.Words.{most_columns};
 ghost use Rattle.column_pages.specs.Answers.{bits_in};
 ghost use Rattle.writing.specs.Piece.{pieces};
@@ -26,8 +26,7 @@ pub fn in_order(pages: &[u64], n: usize) -> bool
     let count = pages.len() / rows::PAGE_WORDS;
     let columns = n as u64;
     let mut least: u64 = 0;
-    let mut i = 0;
-    while i < count {
+    for i in 0..count {
         let column = rows::word(pages, rows::PAGE_WORDS, i as u64, 0);
         if column < least {
             return false;
@@ -36,25 +35,23 @@ pub fn in_order(pages: &[u64], n: usize) -> bool
             return false;
         }
         least = column;
-        i += 1;
     }
     true
 }
 
 // Where the rows of a column end that stand from row `first` on.
 fn run_end(pages: &[u64], column: ColumnNumber, first: usize) -> usize
+    requires { first ≤ length pages.now / 5 }
     ensures { result ≡ first + leading column.0 (drop first (page_rows_in pages.now)) }
 {
     let count = pages.len() / rows::PAGE_WORDS;
     let c = column.0;
-    let mut i = first;
-    while i < count {
+    for i in first..count {
         if rows::word(pages, rows::PAGE_WORDS, i as u64, 0) != c {
             return i;
         }
-        i += 1;
     }
-    i
+    count
 }
 
 // The pages of n columns, where their rows stand in the order of the columns. Where none is refused, this pass tells that too: the runs of the
@@ -66,8 +63,7 @@ pub fn columns_check(columns: &[u64], n: usize, file: u64, pages: &[u64]) -> Col
 {
     let mut elements = [0u64; rows::MOST_COLUMNS];
     let mut first = 0;
-    let mut i = 0;
-    while i < n {
+    for i in 0..n {
         let column = ColumnNumber(i as u64);
         let end = run_end(pages, column, first);
         let row = column_rows::column_row(columns, column);
@@ -84,7 +80,6 @@ pub fn columns_check(columns: &[u64], n: usize, file: u64, pages: &[u64]) -> Col
         }
         elements[i] = sum.elements;
         first = end;
-        i += 1;
     }
     ColumnSums {
         number: 0,

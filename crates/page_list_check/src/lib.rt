@@ -19,7 +19,6 @@ ghost use Rattle.writing.specs.Rows.{page_rows_in};
 ghost use Rattle.writing.specs.PageList.{by_column, in_column_order, page_list_payload_piece, pages_say, totals_number};
 
 pub use page::page_words;
-use totals::Totals;
 
 // How long a page list of so many columns and rows would be; 1048577 where it would be longer than an envelope may be.
 pub fn page_list_long(columns: usize, rows: usize) -> usize
@@ -40,8 +39,8 @@ fn totals_number(
     ensures { result ≡ totals_number (totals entries (columns_in columns.now n) elements.now 0 (take most_fields parents.now) flags.now) }
 {
     match totals::totals_of(entries, parents, flags, columns, n, elements) {
-        Totals::Agree => 0,
-        Totals::Differ(_) => 19,
+        None => 0,
+        Some(_) => 19,
     }
 }
 

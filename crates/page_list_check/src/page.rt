@@ -60,8 +60,7 @@ fn pages_check(pages: &[u64], bits: u16, file: u64) -> ColumnSum
 {
     let n = pages.len() / rows::PAGE_WORDS;
     let mut elements: u64 = 0;
-    let mut i = 0;
-    while i < n {
+    for i in 0..n {
         let page = page_words(pages, i);
         let more = page.elements;
         let number = page_number(page, bits, file);
@@ -69,7 +68,6 @@ fn pages_check(pages: &[u64], bits: u16, file: u64) -> ColumnSum
             return ColumnSum { number, elements };
         }
         elements += more;
-        i += 1;
     }
     ColumnSum {
         number: 0,

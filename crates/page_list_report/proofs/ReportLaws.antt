@@ -18,7 +18,7 @@ use Rattle.rows.specs.declared.PageRow.{PageRow}
 use Rattle.page_list.specs.Tables.{page_list_beside}
 use Rattle.figure_rules.specs.declared.ListCounts.{ListCounts}
 use Rattle.figure_rules.specs.declared.ReportAnswer.TheVariants.{Refused}
-use Rattle.figure_rules.specs.Report.{figure_width, list_figures, rows_for, Report, one_refused, placed, taken, most_lists, reported}
+use Rattle.figure_rules.specs.Report.{figure_width, list_figures, rows_for, one_refused, placed, taken, most_lists, reported}
 use Rattle.figure_rules.proofs.Accepted.{read_beside_lem}
 use Rattle.figure_rules.proofs.Figures.{figures_length}
 use Rattle.figure_rules.proofs.Tests.{reported_taken}

@@ -10,12 +10,10 @@ pub fn all_fit(figures: &[u64], report: &[u64]) -> bool
     requires { length figures.now ≤ length report.now }
     ensures { result ≡ sums_fit figures.now report.now }
 {
-    let mut i = 0;
-    while i < figures.len() {
+    for i in 0..figures.len() {
         if LARGEST - figures[i] < report[i] {
             return false;
         }
-        i += 1;
     }
     true
 }
@@ -25,9 +23,7 @@ pub fn add_all(figures: &[u64], report: &mut [u64])
     requires { (length figures.now ≤ length report.old) × (sums_fit figures.now report.old ≡ true) }
     ensures { report.new ≡ added figures.now report.old }
 {
-    let mut k = 0;
-    while k < figures.len() {
+    for k in 0..figures.len() {
         report[k] += figures[k];
-        k += 1;
     }
 }

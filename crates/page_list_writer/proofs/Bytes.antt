@@ -136,5 +136,8 @@ module _ {table : List ℕ} {c : ℕ} {out₀ : List ℕ} {at : ℕ} where
     pages_stop h is other = pages_end (run_stops table m.in_run h (ap (λ (q : PageWords). q.column) is) other)
 
     pub pages_all : length table / 5 ≤ i
-        → (i ≡ leading c (page_rows_in table)) × ((file bits : ℕ) → Stored out₀ at (pieces (page_item file bits) [] (run c (page_rows_in table))).bytes out next)
-    pages_all h = pages_end (run_all table m.in_run h)
+        → (length table / 5 ≡ leading c (page_rows_in table)) × ((file bits : ℕ) → Stored out₀ at (pieces (page_item file bits) [] (run c (page_rows_in table))).bytes out next)
+    pages_all h =
+        let both = pages_end (run_all table m.in_run h) in
+        let count : i ≡ leading c (page_rows_in table) = both.0 in
+        (omega (arith, m.inside), both.1)

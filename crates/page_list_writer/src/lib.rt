@@ -10,7 +10,6 @@ ghost use Rattle.writing.specs.Rows.{page_rows_in};
 ghost use Rattle.writing.specs.PageList.{page_list_piece};
 ghost use Rattle.writing.specs.Answers.{Answered, page_list_to_write};
 
-use header_schema::HeaderVerdict;
 use writing::WriteAnswer;
 
 // Writes the page list of a lent table (5 words to a page) beside a header, over the first of the lent bytes. What is refused leaves these as
@@ -27,7 +26,7 @@ pub fn write_page_list(
     let schema = header_schema::read_schema(header);
     let verdict = schema.verdict;
     match verdict {
-        HeaderVerdict::Accepted => {
+        Ok(()) => {
             let n = schema.fields;
             let parents = schema.parents;
             let flags = schema.flags;
@@ -43,7 +42,7 @@ pub fn write_page_list(
                 out,
             )
         }
-        HeaderVerdict::Refused(f) => WriteAnswer::Refused(1, f.number),
+        Err(f) => WriteAnswer::Refused(1, f.number),
     }
 }
 

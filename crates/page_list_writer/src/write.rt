@@ -36,16 +36,14 @@ fn write_pages(pages: &[u64], column: ColumnNumber, at: usize, out: &mut [u8]) -
     let n = pages.len() / rows::PAGE_WORDS;
     let c = column.0;
     let mut next = at;
-    let mut i = 0;
-    while i < n {
+    for i in 0..n {
         let page = page_list_check::page_words(pages, i);
         if page.column != c {
             return RunWritten { count: i, next };
         }
         next = write_page(page, next, out);
-        i += 1;
     }
-    RunWritten { count: i, next }
+    RunWritten { count: n, next }
 }
 
 // The list of the pages of the column that stands first in a table. Its head is stored last.
@@ -69,13 +67,11 @@ fn write_columns(pages: &[u64], n: usize, at: usize, out: &mut [u8]) -> usize
     let count = pages.len() / rows::PAGE_WORDS;
     let mut next = at;
     let mut first = 0;
-    let mut i = 0;
-    while i < n {
+    for i in 0..n {
         let rest = &pages[rows::PAGE_WORDS * first..rows::PAGE_WORDS * count];
         let written = write_column(rest, ColumnNumber(i as u64), next, out);
         next = written.next;
         first += written.count;
-        i += 1;
     }
     next
 }
@@ -84,10 +80,7 @@ fn write_columns(pages: &[u64], n: usize, at: usize, out: &mut [u8]) -> usize
 fn write_payload(pages: &[u64], n: usize, at: usize, out: &mut [u8]) -> usize
     ensures { in_column_order n 0 (page_rows_in pages.now) ≡ true → (file : ℕ) (bits : List ℕ) → Stored out.old at (page_list_payload_piece file bits (by_column 0 n (page_rows_in pages.now))).bytes out.new result }
 {
-    let items = stores::store_8(0, at, out);
-    let end = write_columns(pages, n, items, out);
-    stores::store_list_head(end - at, n, at, out);
-    end
+    stores::store_list(n, at, out, |items, out| write_columns(pages, n, items, out))
 }
 
 // The envelope, where there is room for it.

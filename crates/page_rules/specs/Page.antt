@@ -1,5 +1,5 @@
 -- What a page call answers, and what it leaves in the lent words and bytes.
-use Rattle.std.specs.Prelude.{ℕ, zero, suc, ◌+◌, ◌*◌, ◌-◌, ◌/◌, ◌%◌, ◌^◌, List, [], ◌∷◌, ◌++◌, map, ◌≡◌, ◌⊎◌, Bool, true, false, not, length, take, drop, ltb, leb, eqb}
+use Rattle.std.specs.Prelude.{ℕ, ◌+◌, ◌/◌, ◌%◌, ◌^◌, List, [], ◌∷◌, ◌++◌, map, ◌≡◌, ◌⊎◌, Bool, true, not, length, take, drop, ltb, leb, eqb}
 use Rattle.numbers.specs.Choice.{pick, both}
 use Rattle.numbers.specs.Numbers.{little, bytes_for, trailer}
 use Rattle.numbers.specs.Rows.{over}

@@ -74,10 +74,8 @@ fn joined(words: &[u64], from: usize, count: usize) -> u64
     ensures { FitsAs result (take count (drop from words.now)) }
 {
     let mut all: u64 = 0;
-    let mut i = 0;
-    while i < count {
-        all = all | words[from + i];
-        i += 1;
+    for i in 0..count {
+        all |= words[from + i];
     }
     all
 }
@@ -91,12 +89,10 @@ fn all_fit(width: u64, words: &[u64]) -> bool
     let limit = most(width);
     let groups = words.len() / 32;
     let mut all: u64 = 0;
-    let mut g = 0;
-    while g < groups {
-        all = all | joined(words, 32 * g, 32);
-        g += 1;
+    for g in 0..groups {
+        all |= joined(words, 32 * g, 32);
     }
-    all = all | joined(words, 32 * groups, words.len() % 32);
+    all |= joined(words, 32 * groups, words.len() % 32);
     all <= limit
 }
 

@@ -7,8 +7,6 @@ ghost use Rattle.page_list.specs.Tables.{Answered};
 ghost use Rattle.pairing.specs.Paired.{paired_beside};
 ghost use Rattle.pairing.specs.Stale.{stale, stale_fault, stale_beside};
 
-use envelope::OpenStep;
-use header_schema::HeaderVerdict;
 use page_list::PageListAnswer;
 
 // The page list ends with a checksum, the row has one, and they differ.
@@ -30,8 +28,8 @@ fn stale_number(page_list: &[u8]) -> u16
     ensures { result ≡ (stale_fault (opened 1 page_list.now)).number }
 {
     match envelope::open_envelope(page_list, page_list::SUPPORTED) {
-        OpenStep::Found(_) => 26,
-        OpenStep::Refused(f) => {
+        Ok(_) => 26,
+        Err(f) => {
             if f.number <= 3 {
                 return f.number;
             }
@@ -47,8 +45,8 @@ fn refuse_stale(header: &[u8], page_list: &[u8]) -> PageListAnswer
     let schema = header_schema::read_schema(header);
     let verdict = schema.verdict;
     match verdict {
-        HeaderVerdict::Accepted => PageListAnswer::Refused(3, stale_number(page_list)),
-        HeaderVerdict::Refused(f) => PageListAnswer::Refused(1, f.number),
+        Ok(()) => PageListAnswer::Refused(3, stale_number(page_list)),
+        Err(f) => PageListAnswer::Refused(1, f.number),
     }
 }
 

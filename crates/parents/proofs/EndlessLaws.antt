@@ -11,46 +11,46 @@ use lib.ListN.{length, take}
 use lib.Seq.{get_or-take}
 use borrow.Author.Count.{below_more}
 use Rattle.numbers.specs.Choice.{pick, both}
-use Rattle.parents.specs.declared.Chains.{Chains}
-use Rattle.parents.specs.declared.Chains.TheVariants.{AllEnd, Endless}
+use Rattle.std.specs.Prelude.{Option, Some, None}
+use Rattle.rows.specs.declared.FieldNumber.{FieldNumber}
 use Rattle.parents.specs.Parents.{Inside, Reaches, reaches, all_reach, endless_at, or_else, endless}
 use Rattle.numbers.proofs.Choice.{clash}
 use Rattle.parents.proofs.ChainLaws.{reaches_iff, reaches_same}
 
 -- the field that an answer names
-abbrev field_in : Chains → ℕ
-field_in AllEnd = 0
-field_in (Endless f) = f.0
+abbrev field_in : Option FieldNumber → ℕ
+field_in None = 0
+field_in (Some f) = f.0
 
 module _ (parents : List ℕ) (n : ℕ) where
-  pub endless_more : (k : ℕ) → endless parents n k ≡ AllEnd → reaches parents n k ≡ true → endless parents n (k + 1) ≡ AllEnd
+  pub endless_more : (k : ℕ) → endless parents n k ≡ None → reaches parents n k ≡ true → endless parents n (k + 1) ≡ None
   unfolding endless
   endless_more k e r = rw (add-one, e, r)
 
   -- the first that is found is the answer for every bound above it
-  pub endless_found : (f m : ℕ) → endless parents n f ≡ AllEnd → reaches parents n f ≡ false → f < m → endless parents n m ≡ endless_at f
+  pub endless_found : (f m : ℕ) → endless parents n f ≡ None → reaches parents n f ≡ false → f < m → endless parents n m ≡ endless_at f
   unfolding endless
   endless_found f m e r l = le_ind (λ (j : ℕ). endless parents n j ≡ endless_at f) (rw (e, r)) (λ j _ s. rw s) m l
 
   -- what the answer says of the chains
-  pub record Lowest (m : ℕ) (c : Chains) : Type 0 where
-    pub ends : c ≡ AllEnd → (f : ℕ) → f < m → reaches parents n f ≡ true
+  pub record Lowest (m : ℕ) (c : Option FieldNumber) : Type 0 where
+    pub ends : c ≡ None → (f : ℕ) → f < m → reaches parents n f ≡ true
     pub never : (f : ℕ) → c ≡ endless_at f → (f < m) × (reaches parents n f ≡ false) × ((g : ℕ) → g < f → reaches parents n g ≡ true)
 
-  step : (m : ℕ) (c : Chains) (b : Bool) → reaches parents n m ≡ b → Lowest m c → Lowest (suc m) (or_else c (pick b AllEnd (endless_at m)))
-  step m AllEnd true e l =
+  step : (m : ℕ) (c : Option FieldNumber) (b : Bool) → reaches parents n m ≡ b → Lowest m c → Lowest (suc m) (or_else c (pick b None (endless_at m)))
+  step m None true e l =
       record {
         ends = λ q f h. below_more (λ (g : ℕ). reaches parents n g ≡ true) m (l.ends refl) e f (omega arith);
         never = λ f q. absurd (let z : ◌≡◌ {A = ℕ} 0 1 = cc in omega arith);
       }
-  step m AllEnd false e l =
+  step m None false e l =
       record {
         ends = λ q. absurd (let z : ◌≡◌ {A = ℕ} 0 1 = cc in omega arith);
         never = λ f q.
             let z : m ≡ f = ap field_in q in
             (omega arith, ap (reaches parents n) (sym z) ∙ e, λ g h. l.ends refl g (omega arith));
       }
-  step m (Endless g) b e l =
+  step m (Some g) b e l =
       record {
         ends = λ q. absurd (let z : ◌≡◌ {A = ℕ} 0 1 = cc in omega arith);
         never = λ f q. let r = l.never f q in (omega arith, r.1, r.2);
@@ -63,7 +63,7 @@ module _ (parents : List ℕ) (n : ℕ) where
 
 -- the unbounded meaning of the two answers
 module _ (parents : List ℕ) (n : ℕ) (inside : Inside parents n) where
-  pub all_end : endless parents n n ≡ AllEnd → (f : ℕ) → f < n → Reaches parents f
+  pub all_end : endless parents n n ≡ None → (f : ℕ) → f < n → Reaches parents f
   all_end e f l = (reaches_iff parents n inside f l).0 ((lowest parents n n).ends e f l)
 
   pub one_endless : (f : ℕ) → endless parents n n ≡ endless_at f → (f < n) × (Reaches parents f → ⊥) × ((g : ℕ) → g < f → Reaches parents g)
@@ -81,13 +81,13 @@ endless_take parents n inside zero h = refl
 endless_take parents n inside (suc k) h =
     rw (endless_take parents n inside k (omega arith), reaches_same parents (take n parents) n inside (λ x l. sym (get_or-take n parents x 0 l)) n k h)
 
-all_step : (c : Chains) (b a : Bool) (m : ℕ) → (a ≡ true) ↔ (c ≡ AllEnd) → (both a b ≡ true) ↔ (or_else c (pick b AllEnd (endless_at m)) ≡ AllEnd)
-all_step AllEnd true a m h = rw (h.1 refl) (λ _. refl, λ _. refl)
-all_step AllEnd false a m h = rw (h.1 refl) (λ e. clash e refl, λ e. absurd (let z : ◌≡◌ {A = ℕ} 0 1 = cc in omega arith))
-all_step (Endless f) b true m h = (λ _. h.0 refl, λ e. absurd (let z : ◌≡◌ {A = ℕ} 0 1 = cc in omega arith))
-all_step (Endless f) b false m h = (λ e. clash e refl, λ e. absurd (let z : ◌≡◌ {A = ℕ} 0 1 = cc in omega arith))
+all_step : (c : Option FieldNumber) (b a : Bool) (m : ℕ) → (a ≡ true) ↔ (c ≡ None) → (both a b ≡ true) ↔ (or_else c (pick b None (endless_at m)) ≡ None)
+all_step None true a m h = rw (h.1 refl) (λ _. refl, λ _. refl)
+all_step None false a m h = rw (h.1 refl) (λ e. clash e refl, λ e. absurd (let z : ◌≡◌ {A = ℕ} 0 1 = cc in omega arith))
+all_step (Some f) b true m h = (λ _. h.0 refl, λ e. absurd (let z : ◌≡◌ {A = ℕ} 0 1 = cc in omega arith))
+all_step (Some f) b false m h = (λ e. clash e refl, λ e. absurd (let z : ◌≡◌ {A = ℕ} 0 1 = cc in omega arith))
 
-pub all_reach_iff : (parents : List ℕ) (m : ℕ) → (all_reach parents m ≡ true) ↔ (endless parents (length parents) m ≡ AllEnd)
+pub all_reach_iff : (parents : List ℕ) (m : ℕ) → (all_reach parents m ≡ true) ↔ (endless parents (length parents) m ≡ None)
 unfolding all_reach endless
 all_reach_iff parents zero = (λ _. refl, λ _. refl)
 all_reach_iff parents (suc m) = all_step _ _ _ m (all_reach_iff parents m)

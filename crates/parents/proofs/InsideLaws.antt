@@ -1,7 +1,7 @@
 -- The test that every parent is one of the fields. Assumes nothing.
-use Prim.Native.Nat.{ℕ, zero, suc, ◌+◌, ◌≤◌, ◌<◌}
+use Prim.Native.Nat.{ℕ, zero, suc, ◌≤◌, ◌<◌}
 use mathlib.Core.Path.{◌≡◌, refl, ap}
-use mathlib.Core.Bool.{true, false}
+use mathlib.Core.Bool.{Bool, true, false}
 use mathlib.Core.List.{List}
 use native.Mathlib.Omega.{arith}
 use native.Mathlib.Numerals.{add-one}
@@ -10,15 +10,25 @@ use borrow.Author.Tests.{lt-ltb, ltb-true, le-leb, lt-leb, leb-true}
 use lib.ListN.{length, get_or, take, length-take}
 use lib.Seq.{get_or-take}
 use lib.Dec.{leb, ltb}
+use Rattle.std.specs.Prelude.{◌&&◌}
+use Rattle.std.specs.List.{list_all}
+use Rattle.std.proofs.lemmas.List.Folds.{list_all_more}
 use Rattle.rows.specs.Words.{most_fields}
 use Rattle.parents.specs.Parents.{inside_up_to, inside, Inside}
 use Rattle.numbers.specs.Choice.{both}
 use Rattle.numbers.proofs.Choice.{is_false, both_true}
 
 module _ (parents : List ℕ) (n : ℕ) where
-  pub up_to_more : (k : ℕ) → inside_up_to parents n k ≡ true → get_or parents k 0 < n → inside_up_to parents n (k + 1) ≡ true
+  -- the test of the first k parents, one after the other
+  up_to_taken : (k : ℕ) → k ≤ length parents → list_all (λ x. ltb x n) (take k parents) ≡ inside_up_to parents n k
   unfolding inside_up_to
-  up_to_more k e l = rw (add-one, e, lt-ltb (get_or parents k 0) n l)
+  up_to_taken zero h = refl
+  up_to_taken (suc k) h =
+      rw (← add-one k, list_all_more (λ (x : ℕ). ltb x n) parents k 0 (omega arith), up_to_taken k (omega arith)) (joined (inside_up_to parents n k) (ltb (get_or parents k 0) n))
+    where
+      joined : (a b : Bool) → (a && b) ≡ both a b
+      joined true b = refl
+      joined false b = refl
 
   up_to_is : (k : ℕ) → inside_up_to parents n k ≡ true → (f : ℕ) → f < k → get_or parents f 0 < n
   unfolding inside_up_to
@@ -65,5 +75,6 @@ module _ (parents : List ℕ) (n : ℕ) where
   pub inside_more : length parents < n → inside parents n ≡ false
   inside_more h = is_false (inside parents n) (λ t. let r = (inside_few t).1 in omega arith)
 
-  pub inside_not : (f : ℕ) → f < n → n ≤ get_or parents f 0 → inside parents n ≡ false
-  inside_not f l h = is_false (inside parents n) (λ t. let r = inside_is t f l in omega arith)
+  pub inside_all : n ≤ most_fields → n ≤ length parents → list_all (λ x. ltb x n) (take n parents) ≡ inside parents n
+  unfolding inside
+  inside_all few long = rw (le-leb n most_fields few, le-leb n (length parents) long) (up_to_taken n long)

@@ -1,9 +1,8 @@
 -- Parent chains.
-use Rattle.std.specs.Prelude.{ℕ, zero, suc, ◌<◌, List, Bool, true, ◌≡◌, length, get_or, take, eqb, leb, ltb}
+use Rattle.std.specs.Prelude.{ℕ, zero, suc, ◌<◌, List, Bool, true, ◌≡◌, length, get_or, take, eqb, leb, ltb, Option, Some, None}
 use Rattle.numbers.specs.Choice.{pick, both}
 use Rattle.rows.specs.Words.{most_fields}
-use Rattle.parents.specs.declared.Chains.{Chains}
-use Rattle.parents.specs.declared.Chains.TheVariants.{AllEnd, Endless}
+use Rattle.rows.specs.declared.FieldNumber.{FieldNumber}
 
 -- every field below n has its parent below n
 abbrev pub Inside : List ℕ → ℕ → Type 0
@@ -46,21 +45,21 @@ all_reach parents zero = true
 all_reach parents (suc n) = both (all_reach parents n) (reaches parents (length parents) n)
 
 -- the chain from f never ends
-abbrev pub endless_at : ℕ → Chains
-endless_at f = Endless (record { 0 = f })
+abbrev pub endless_at : ℕ → Option FieldNumber
+endless_at f = Some (record { 0 = f })
 
-abbrev pub or_else : Chains → Chains → Chains
-or_else AllEnd c = c
-or_else (Endless f) c = Endless f
+abbrev pub or_else : Option FieldNumber → Option FieldNumber → Option FieldNumber
+or_else None c = c
+or_else (Some f) c = Some f
 
 -- of the fields below k, the lowest whose chain does not end within n moves
-unfoldable pub endless : List ℕ → ℕ → ℕ → Chains
-endless parents n zero = AllEnd
-endless parents n (suc k) = or_else (endless parents n k) (pick (reaches parents n k) AllEnd (endless_at k))
+unfoldable pub endless : List ℕ → ℕ → ℕ → Option FieldNumber
+endless parents n zero = None
+endless parents n (suc k) = or_else (endless parents n k) (pick (reaches parents n k) None (endless_at k))
 
 -- the answer on the first n of some parents; where one is none of the n fields, no chain is followed
-unfoldable pub chains_of : List ℕ → ℕ → Chains
-chains_of parents n = pick (inside parents n) (endless (take n parents) n n) AllEnd
+unfoldable pub chains_of : List ℕ → ℕ → Option FieldNumber
+chains_of parents n = pick (inside parents n) (endless (take n parents) n n) None
 
 -- f is g or an ancestor of g
 abbrev pub Above : List ℕ → ℕ → ℕ → Type 0

@@ -46,13 +46,11 @@ pub fn marks_of(parents: &[u16], n: usize, columns: &[u64], count: usize) -> [u8
     ensures { (f : ℕ) → get_or result f 0 ≡ bit (dark (take n parents.now) (hanging n (columns_in columns.now count)) f) }
 {
     let mut marks = [0u8; rows::MOST_FIELDS];
-    let mut i = 0;
-    while i < count {
+    for i in 0..count {
         let column = column_rows::column_row(columns, ColumnNumber(i as u64));
         if unknown_on(column, n) {
             darken(parents, &mut marks, n, column.field);
         }
-        i += 1;
     }
     marks
 }

@@ -12,13 +12,5 @@ pub fn all_inside(parents: &[u16], n: usize) -> bool
     if parents.len() < n {
         return false;
     }
-    let mut f = 0;
-    while f < n {
-        if (parents[f] as usize) < n {
-            f += 1;
-        } else {
-            return false;
-        }
-    }
-    true
+    parents[..n].iter().all(|parent| (*parent as usize) < n)
 }

@@ -13,22 +13,15 @@ ghost use Rattle.parents.specs.Dark.{dark_mark};
 
 use rows::FieldNumber;
 
-// Whether every parent chain ends at a self-parented field; if not, the lowest field whose chain never does.
-#[derive(Clone, Copy)]
-pub enum Chains {
-    AllEnd,
-    Endless(FieldNumber),
-}
-
 // Of the first n fields, whose parents are these, the lowest whose chain never ends, if there is one. No chain is followed
 // where a parent is none of the n fields.
-pub fn endless_chain(parents: [u16; rows::MOST_FIELDS], n: usize) -> Chains
+pub fn endless_chain(parents: [u16; rows::MOST_FIELDS], n: usize) -> Option<FieldNumber>
     ensures { result ≡ chains_of parents n }
 {
     if inside::all_inside(&parents, n) {
         return walk::lowest_endless(parents, n);
     }
-    Chains::AllEnd
+    None
 }
 
 // The dark marks of n fields, whose parents are these: 1 where one of the first `count` columns of a table is of unknown type and

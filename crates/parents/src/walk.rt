@@ -4,7 +4,6 @@ ghost use Rattle.rows.specs.Words.{most_fields};
 ghost use Rattle.parents.specs.Parents.{Inside, reaches, endless};
 ghost use Rattle.parents.specs.Marks.{Marked};
 
-use crate::Chains;
 use rows::FieldNumber;
 
 pub fn parent_of(parents: &[u16], field: FieldNumber) -> FieldNumber
@@ -50,20 +49,17 @@ fn follow(
 }
 
 // Of the first n fields, the lowest whose chain never ends, if there is one. No field is followed twice.
-pub fn lowest_endless(parents: [u16; rows::MOST_FIELDS], n: usize) -> Chains
+pub fn lowest_endless(parents: [u16; rows::MOST_FIELDS], n: usize) -> Option<FieldNumber>
     requires n_le_most_fields { n ≤ most_fields }
     requires inside { Inside parents n }
     ensures { result ≡ endless (take n parents) n n }
 {
     let mut marks = [0u16; rows::MOST_FIELDS];
-    let mut f = 0;
-    while f < n {
+    for f in 0..n {
         let field = FieldNumber(f as u64);
-        if follow(&parents, &mut marks, n, field) {
-            f += 1;
-        } else {
-            return Chains::Endless(field);
+        if !follow(&parents, &mut marks, n, field) {
+            return Some(field);
         }
     }
-    Chains::AllEnd
+    None
 }

@@ -18,6 +18,7 @@ pub fn join_at(unit: u64, keep: u64, b: u64, at: usize, out: &mut [u64])
 }
 
 // Two, four and eight bytes into the words from a place on.
+#[tactic(auto, unfolding(crate::specs::Join::join_two))]
 fn join_two(unit: u64, keep: u64, a: u64, b: u64, at: usize, out: &mut [u64])
     requires { (256 * unit ≤ 2 ^ 64) × (a < 256) × (b < 256) × (at + 2 ≤ length out.old) }
     ensures { out.new ≡ join_two unit keep a b at out.old }
@@ -26,6 +27,7 @@ fn join_two(unit: u64, keep: u64, a: u64, b: u64, at: usize, out: &mut [u64])
     join_at(unit, keep, b, at + 1, out);
 }
 
+#[tactic(auto, unfolding(crate::specs::Join::join_four))]
 fn join_four(unit: u64, keep: u64, a: u64, b: u64, c: u64, d: u64, at: usize, out: &mut [u64])
     requires { (256 * unit ≤ 2 ^ 64) × Octets a b c d × (at + 4 ≤ length out.old) }
     ensures { out.new ≡ join_four unit keep a b c d at out.old }
@@ -34,6 +36,7 @@ fn join_four(unit: u64, keep: u64, a: u64, b: u64, c: u64, d: u64, at: usize, ou
     join_two(unit, keep, c, d, at + 2, out);
 }
 
+#[tactic(auto, unfolding(crate::specs::Join::join_eight))]
 pub fn join_eight(
     unit: u64,
     keep: u64,

@@ -29,9 +29,8 @@ pub fn clear_above(k: usize, out: &mut [u64])
     if 8 <= k {
         return;
     }
-    let mut i = 0;
-    while i < out.len() {
+    // By index: the library's `fill` writes the last word apart, and takes longer for a few words.
+    for i in 0..out.len() {
         out[i] = 0;
-        i += 1;
     }
 }

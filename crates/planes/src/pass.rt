@@ -11,8 +11,9 @@ fn place_eights(unit: u64, keep: u64, plane: &[u8], out: &mut [u64]) -> usize
     requires { (256 * unit ≤ 2 ^ 64) × (length plane.now ≤ length out.old) }
     ensures { (result ≤ length plane.now) × (out.new ≡ joined_by (joins unit keep) (take result plane.now) out.old) }
 {
-    let mut i = 0;
-    while 7 < plane.len() - i {
+    let eights = plane.len() / 8;
+    for n in 0..eights {
+        let i = 8 * n;
         let a = wide(plane[i]);
         let b = wide(plane[i + 1]);
         let c = wide(plane[i + 2]);
@@ -22,9 +23,8 @@ fn place_eights(unit: u64, keep: u64, plane: &[u8], out: &mut [u64]) -> usize
         let g = wide(plane[i + 6]);
         let h = wide(plane[i + 7]);
         join_eight(unit, keep, a, b, c, d, e, f, g, h, i, out);
-        i += 8;
     }
-    i
+    8 * eights
 }
 
 // One byte at a time.
@@ -32,10 +32,8 @@ fn place_each(unit: u64, keep: u64, plane: &[u8], out: &mut [u64])
     requires { (256 * unit ≤ 2 ^ 64) × (length plane.now ≤ length out.old) }
     ensures { out.new ≡ joined_by (joins unit keep) plane.now out.old }
 {
-    let mut i = 0;
-    while 0 < plane.len() - i {
+    for i in 0..plane.len() {
         join_at(unit, keep, wide(plane[i]), i, out);
-        i += 1;
     }
 }
 
@@ -44,22 +42,15 @@ fn place_most(p: usize, keep: u64, plane: &[u8], out: &mut [u64]) -> usize
     requires { (p < 8) × (length plane.now ≤ length out.old) }
     ensures { (result ≤ length plane.now) × (out.new ≡ joined_by (joins (256 ^ p) keep) (take result plane.now) out.old) }
 {
-    if p == 0 {
-        place_eights(1, keep, plane, out)
-    } else if p == 1 {
-        place_eights(256, keep, plane, out)
-    } else if p == 2 {
-        place_eights(65536, keep, plane, out)
-    } else if p == 3 {
-        place_eights(16777216, keep, plane, out)
-    } else if p == 4 {
-        place_eights(4294967296, keep, plane, out)
-    } else if p == 5 {
-        place_eights(1099511627776, keep, plane, out)
-    } else if p == 6 {
-        place_eights(281474976710656, keep, plane, out)
-    } else {
-        place_eights(72057594037927936, keep, plane, out)
+    match p {
+        0 => place_eights(1, keep, plane, out),
+        1 => place_eights(256, keep, plane, out),
+        2 => place_eights(65536, keep, plane, out),
+        3 => place_eights(16777216, keep, plane, out),
+        4 => place_eights(4294967296, keep, plane, out),
+        5 => place_eights(1099511627776, keep, plane, out),
+        6 => place_eights(281474976710656, keep, plane, out),
+        _ => place_eights(72057594037927936, keep, plane, out),
     }
 }
 

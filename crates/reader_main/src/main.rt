@@ -12,8 +12,8 @@ fn string_text(envelope: &[u8], at: usize) -> &[u8]
     ensures { result.now ≡ characters_of envelope.now (string envelope.now at) }
 {
     match text::string_at(envelope, at) {
-        text::TextStep::Found(text, _) => reader::read_text(envelope, text.place, text.len),
-        text::TextStep::Refused(_) => &envelope[..0],
+        Ok((text, _)) => reader::read_text(envelope, text.place, text.len),
+        Err(_) => &envelope[..0],
     }
 }
 

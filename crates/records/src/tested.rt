@@ -1,16 +1,9 @@
 // Numbers that are judged as soon as they are read whole.
 ghost use Rattle.std.specs.Prelude.{◌≡◌};
 ghost use Rattle.wire.specs.Reading.{tested, below, listed};
-ghost use Rattle.wire.specs.Answers.{number_step};
+ghost use Rattle.wire.specs.Answers.{as_step};
 
-use wire::NumberStep;
-
-// A number that was read, and the place after it.
-#[derive(Clone, Copy)]
-pub struct Read {
-    pub value: u64,
-    pub next: usize,
-}
+use wire::Step;
 
 // The verdict on a field's or a column's number: below its count.
 pub fn below(limit: u64, v: u64) -> u16
@@ -33,31 +26,25 @@ pub fn listed(most: u64, v: u64) -> u16
 }
 
 // The number of one of `count` fields or columns.
-pub fn number_below(s: &[u8], at: usize, count: u64) -> NumberStep
-    ensures { number_step result ≡ tested 4 (below count) s.now at }
+pub fn number_below(s: &[u8], at: usize, count: u64) -> Step<u64>
+    ensures { as_step result ≡ tested 4 (below count) s.now at }
 {
-    match wire::number_4(s, at) {
-        NumberStep::Found(v, next) => wire::judge(v, at, next, below(count, v)),
-        NumberStep::Refused(f) => NumberStep::Refused(f),
-    }
+    let (v, next) = wire::number_4(s, at)?;
+    wire::judge(v, at, next, below(count, v))
 }
 
 // A role or flags of two bytes, none above `most`.
-pub fn listed_2(s: &[u8], at: usize, most: u64) -> NumberStep
-    ensures { number_step result ≡ tested 2 (listed most) s.now at }
+pub fn listed_2(s: &[u8], at: usize, most: u64) -> Step<u64>
+    ensures { as_step result ≡ tested 2 (listed most) s.now at }
 {
-    match wire::number_2(s, at) {
-        NumberStep::Found(v, next) => wire::judge(v, at, next, listed(most, v)),
-        NumberStep::Refused(f) => NumberStep::Refused(f),
-    }
+    let (v, next) = wire::number_2(s, at)?;
+    wire::judge(v, at, next, listed(most, v))
 }
 
 // Flags of four bytes, none above `most`.
-pub fn listed_4(s: &[u8], at: usize, most: u64) -> NumberStep
-    ensures { number_step result ≡ tested 4 (listed most) s.now at }
+pub fn listed_4(s: &[u8], at: usize, most: u64) -> Step<u64>
+    ensures { as_step result ≡ tested 4 (listed most) s.now at }
 {
-    match wire::number_4(s, at) {
-        NumberStep::Found(v, next) => wire::judge(v, at, next, listed(most, v)),
-        NumberStep::Refused(f) => NumberStep::Refused(f),
-    }
+    let (v, next) = wire::number_4(s, at)?;
+    wire::judge(v, at, next, listed(most, v))
 }

@@ -14,8 +14,8 @@ use Rattle.page_list.specs.PageList.{totals_of, agreed, total_fault, summed, pag
 use Rattle.column_pages.specs.ColumnPages.{payload, bits_of, per_column, pages_after}
 use Rattle.numbers.specs.Numbers.{bytes_for}
 use Rattle.pages.specs.Pages.{elements_in, page_word, page, running_total, pages}
-use Rattle.totals.specs.declared.Totals.{Totals}
-use Rattle.totals.specs.declared.Totals.TheVariants.{Agree, Differ}
+use Rattle.std.specs.Prelude.{Option, Some, None}
+use Rattle.rows.specs.declared.FieldNumber.{FieldNumber}
 use Rattle.refusals.specs.Refusals.{among, in_page_list, PageListNumbers}
 use Rattle.refusals.proofs.Naming.{Named, Naming, named_found, named_refused, unless_judged, last_judged, naming_give, naming_bind, naming_tested, naming_located, naming_list, named_envelope}
 
@@ -42,9 +42,9 @@ unfolding summed among
 named_summed entries l (found pss p) n =
     by (totals_of entries l pss)
   where
-    by : (t : Totals) → Named in_page_list (agreed t (found pss p))
-    by Agree = named_found
-    by (Differ f) = named_refused {g = total_fault f.0} refl
+    by : (t : Option FieldNumber) → Named in_page_list (agreed t (found pss p))
+    by None = named_found
+    by (Some f) = named_refused {g = total_fault f.0} refl
 named_summed entries l (refused f) n = n
 
 pub page_list_numbers : PageListNumbers

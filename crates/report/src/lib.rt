@@ -103,13 +103,9 @@ fn with_text(line: Line, text: &[u8]) -> Line
     if 128 - start < text.len() {
         return line;
     }
-    let mut i = 0;
-    while i < text.len() {
-        bytes[start + i] = text[i];
-        i += 1;
-    }
+    bytes[start..start + text.len()].copy_from_slice(text);
     Line {
         bytes,
-        len: start + i,
+        len: start + text.len(),
     }
 }

@@ -120,6 +120,7 @@ pub struct PageRow {
 }
 
 // Word j of a row of a table whose rows have `width` words; 0 where its rows have no such word, or it has no such row whole.
+#[tactic(auto, using(crate::proofs::RowLaws::row_fits))]
 pub fn word(table: &[u64], width: usize, row: u64, j: usize) -> u64
     ensures { result ≡ get_or (row_words width table.now row) j 0 }
 {
@@ -134,6 +135,7 @@ pub fn word(table: &[u64], width: usize, row: u64, j: usize) -> u64
 }
 
 // Writes `words` into `table` from `at` on, where there is room.
+#[tactic(auto, unfolding(numbers::specs::Rows::put))]
 pub fn put_words(table: &mut [u64], at: usize, words: &[u64])
     ensures { table.new ≡ put table.old at words.now }
 {
@@ -143,9 +145,8 @@ pub fn put_words(table: &mut [u64], at: usize, words: &[u64])
     if table.len() - at < words.len() {
         return;
     }
-    let mut i = 0;
-    while i < words.len() {
+    // By index: the library's copy takes more than twice as long for a row.
+    for i in 0..words.len() {
         table[at + i] = words[i];
-        i += 1;
     }
 }

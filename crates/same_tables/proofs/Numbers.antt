@@ -1,49 +1,29 @@
 -- How a loop tells whether two lists of numbers are the same, and whether a test holds of all numbers below a count.
-use Prim.Native.Nat.{ℕ, zero, suc, ◌+◌, ◌-◌, ◌≤◌, ◌<◌}
+use Prim.Native.Nat.{ℕ, suc, ◌+◌, ◌-◌, ◌≤◌, ◌<◌}
 use mathlib.Core.Path.{◌≡◌, refl, ap, ◌∙◌}
 use mathlib.Core.Bool.{Bool, true, false}
 use mathlib.Core.List.{List, [], ◌∷◌}
 use native.Mathlib.Numerals.{add-one}
 use native.Mathlib.Omega.{arith}
 use lib.Dec.{eqb}
-use lib.ListN.{length, get_or, drop}
-use lib.Seq.{drop-cons, drop-nil}
-use borrow.Author.Tests.{eq-eqb, ne_eqb}
+use Rattle.std.specs.Prelude.{nat_eq, ◌&&◌}
+use Rattle.std.specs.Cmp.Lexicographic.{pointwise}
 use Rattle.numbers.specs.Choice.{both}
-use Rattle.numbers.proofs.Choice.{both_false}
 use Rattle.rows.specs.Tables.{field_row, dark_mark}
 use Rattle.rows.specs.declared.FieldRow.{FieldRow}
 use Rattle.same_tables.specs.Same.{same_numbers, same_heads, same_strings, same_field, all_from}
 
-pub lengths_differ : (a b : List ℕ) → (length a ≡ length b → ⊥) → same_numbers a b ≡ false
+and_both : (a b : Bool) → (a && b) ≡ both a b
+and_both true b = refl
+and_both false b = refl
+
+-- the library's test of two lists, and the specification's
+pub same_pointwise : (a b : List ℕ) → pointwise nat_eq a b ≡ same_numbers a b
 unfolding same_numbers
-lengths_differ [] [] h = absurd (h refl)
-lengths_differ [] (y ∷ ys) h = refl
-lengths_differ (x ∷ xs) [] h = refl
-lengths_differ (x ∷ xs) (y ∷ ys) h = rw (lengths_differ xs ys (λ q. h (ap suc q))) (both_false (eqb x y))
-
--- number i of two lists of one length: it differs, or the rest decides
-module _ (a b : List ℕ) (i : ℕ) (inside : i < length a) (long : length a ≡ length b) where
-  inside' : i < length b
-  inside' = omega (arith, inside, long)
-
-  pub same_not : (get_or a i 0 ≡ get_or b i 0 → ⊥) → same_numbers (drop i a) (drop i b) ≡ false
-  unfolding same_numbers
-  same_not h = rw (drop-cons a i 0 inside, drop-cons b i 0 inside') (simp (ne_eqb _ _ h))
-
-  pub same_rest : get_or a i 0 ≡ get_or b i 0 → same_numbers (drop i a) (drop i b) ≡ same_numbers (drop (i + 1) a) (drop (i + 1) b)
-  unfolding same_numbers
-  same_rest h = rw (add-one, drop-cons a i 0 inside, drop-cons b i 0 inside') (simp (eq-eqb _ _ h))
-
-drop_past : (l : List ℕ) (i : ℕ) → length l ≤ i → drop i l ≡ []
-drop_past [] i past = drop-nil i
-drop_past (x ∷ xs) zero past = absurd (omega (arith, past))
-drop_past (x ∷ xs) (suc i) past = drop_past xs i (omega (arith, past))
-
--- past both ends nothing differs
-pub same_end : (a b : List ℕ) (i : ℕ) → length a ≤ i → length a ≡ length b → same_numbers (drop i a) (drop i b) ≡ true
-unfolding same_numbers
-same_end a b i past long = rw (drop_past a i past, drop_past b i (omega (arith, past, long)))
+same_pointwise [] [] = refl
+same_pointwise [] (y ∷ ys) = refl
+same_pointwise (x ∷ xs) [] = refl
+same_pointwise (x ∷ xs) (y ∷ ys) = and_both (eqb x y) (pointwise nat_eq xs ys) ∙ ap (both (eqb x y)) (same_pointwise xs ys)
 
 -- number i of those below n: the test fails, or the rest decides
 module _ (test : ℕ → Bool) (n i : ℕ) (below : i < n) where

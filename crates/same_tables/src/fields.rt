@@ -2,17 +2,13 @@
 ghost use Rattle.std.specs.Prelude.{◌≡◌};
 ghost use Rattle.same_tables.specs.Same.{same_texts, same_heads, same_strings, same_field, same_fields};
 
-use crate::words::same_bytes;
 use rows::{FieldHead, FieldNumber, FieldTexts, Text};
 
 // The strings s of `old` and t of `new` have the same characters.
 pub fn same_texts(old: &[u8], s: Text, new: &[u8], t: Text) -> bool
     ensures { result ≡ same_texts old.now s new.now t }
 {
-    same_bytes(
-        reader::read_text(old, s.place, s.len),
-        reader::read_text(new, t.place, t.len),
-    )
+    reader::read_text(old, s.place, s.len) == reader::read_text(new, t.place, t.len)
 }
 
 fn same_heads(a: FieldHead, b: FieldHead) -> bool
@@ -72,11 +68,8 @@ fn same_field(old: &[u8], f: &[u64], new: &[u8], g: &[u64], i: u64) -> bool
 pub fn same_fields(old: &[u8], f: &[u64], new: &[u8], g: &[u64], count: usize) -> bool
     ensures { result ≡ same_fields old.now f.now new.now g.now count }
 {
-    let mut i: usize = 0;
-    while i < count {
-        if same_field(old, f, new, g, i as u64) {
-            i += 1;
-        } else {
+    for i in 0..count {
+        if !same_field(old, f, new, g, i as u64) {
             return false;
         }
     }

@@ -1,14 +1,13 @@
 -- The numbers that are stored for elements: what stands at a place, and that of elements that fit they are those of the page's definition.
 -- Assumes nothing.
-use Rattle.std.proofs.Common.{◌≡◌, ℕ, zero, suc, ◌+◌, ◌-◌, ◌*◌, ◌/◌, ◌%◌, ◌^◌, ◌<◌, ◌≤◌, Bool, true, false, not, eqb, leb, List, [], ◌∷◌, map, length, get_or, sym, refl, ap, ◌∙◌, subst, ap₂, inl, inr, ⊎_elim, le_of_suc-le-suc, not-suc-le-zero, mod-eq_of_lt, arith, pow_pos, ne_eqb, eqb-true, le-leb}
+use Rattle.std.proofs.Common.{◌≡◌, ℕ, zero, suc, ◌+◌, ◌-◌, ◌*◌, ◌/◌, ◌%◌, ◌^◌, ◌<◌, ◌≤◌, Bool, true, false, not, leb, List, [], ◌∷◌, map, length, get_or, sym, refl, ap, ◌∙◌, subst, ap₂, ⊎_elim, le_of_suc-le-suc, not-suc-le-zero, mod-eq_of_lt, arith, pow_pos, le-leb}
 use mathlib.Core.Bool.{false≢true}
-use borrow.Author.Tests.{lt-leb, not-true}
+use borrow.Author.Tests.{lt-leb}
 use Rattle.numbers.specs.Choice.{pick, both}
 use Rattle.numbers.specs.Rows.{over}
 use Rattle.coding.specs.Layout.{DeltaWidth, SplitWidth, deltas, zigzagged, planes, fit, coded_by}
 use Rattle.coding.specs.Inverses.{Below}
 use Rattle.coding.proofs.Below.{fit_below}
-use Rattle.split_pages.specs.Turn.{Widths}
 use Rattle.split_pages.specs.Split.{element_code, codes, splits, split_into}
 
 module _ (d z : Bool) (w : ℕ) where
@@ -99,29 +98,6 @@ pub widths_split : (d : Bool) (w : ℕ) → SplitWidth w → (d ≡ true → Del
 widths_split d w s h =
     ⊎_elim (λ (e : w ≡ 16). subst (λ (v : ℕ). splits d v ≡ true) (sym e) (at_16 d (subst (λ (v : ℕ). d ≡ true → DeltaWidth v) e h)))
     (⊎_elim (λ (e : w ≡ 32). ap (splits d) e) (λ (e : w ≡ 64). ap (splits d) e)) s
-
-pub split_widths : (d : Bool) (w : ℕ) → splits d w ≡ true → Widths d w
-split_widths d w = go (eqb w 16) refl (eqb w 32) refl
-  where
-    go : (a : Bool) → eqb w 16 ≡ a → (b : Bool) → eqb w 32 ≡ b → pick a (not d) (pick b true (eqb w 64)) ≡ true → Widths d w
-    go true e b f h =
-        record { of_split = inl (eqb-true w 16 e); of_delta = λ g. absurd (false≢true (sym (not-true d h) ∙ g)) }
-    go false e true f h =
-        record { of_split = inr (inl (eqb-true w 32 f)); of_delta = λ g. inl (eqb-true w 32 f) }
-    go false e false f h =
-        record { of_split = inr (inr (eqb-true w 64 h)); of_delta = λ g. inr (eqb-true w 64 h) }
-
--- as the code tests them
-
-pub splits_16 : (d : Bool) (w : ℕ) → w ≡ 16 → not d ≡ splits d w
-splits_16 d w e = ap (splits d) (sym e)
-
-pub splits_32 : (d : Bool) (w : ℕ) → w ≡ 32 → eqb w 32 ≡ splits d w
-splits_32 d w e = subst (λ (v : ℕ). eqb v 32 ≡ splits d v) (sym e) refl
-
-pub splits_other : (d : Bool) (w : ℕ) → (w ≡ 16 → ⊥) → (w ≡ 32 → ⊥) → eqb w 64 ≡ splits d w
-splits_other d w h g =
-    ap₂ (λ (a b : Bool). pick a (not d) (pick b true (eqb w 64))) (sym (ne_eqb w 16 h)) (sym (ne_eqb w 32 g))
 
 -- lent bytes after a page
 

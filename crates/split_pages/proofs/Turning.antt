@@ -9,7 +9,7 @@ use Rattle.coding.proofs.Planes.{length_planes}
 use Rattle.coding.proofs.Places.{get_or_planes, plane_of}
 use Rattle.coding.specs.Strides.{puts}
 use Rattle.planes.specs.Plane.{byte_at}
-use Rattle.split_pages.specs.Turn.{evens, pairs, fours, row, eight_of, two_rows, four_rows, eight_rows, Turned}
+use Rattle.split_pages.specs.Turn.{evens, pairs, fours, row, two_rows, four_rows, eight_rows, Turned}
 use Rattle.planes.proofs.Words.{bytes_power}
 use Rattle.coding.proofs.Puts.{length_puts, puts_before, puts_behind, puts_in}
 use borrow.Author.Tests.{eqb-false}
@@ -272,9 +272,6 @@ pub record Written (k n i : ℕ) (f : ℕ → ℕ) (old out : List ℕ) : Type 0
   pub behind : (p : ℕ) → k * n ≤ p → get_or out p 0 ≡ get_or old p 0
 
 module _ (k n : ℕ) (f : ℕ → ℕ) (old : List ℕ) where
-  pub written_none : Written k n 0 f old old
-  written_none = record { same_size_lem = refl; there = λ j r a b. absurd (not-suc-le-zero b); behind = λ p a. refl }
-
   pub written_next : (i m : ℕ) (out new : List ℕ) → Written k n i f old out → m ≤ i → Turned k n m (λ e. f (m + e)) out new → Written k n (m + 8) f old new
   written_next i m out new w l t = record {
     same_size_lem = t.same_size ∙ w.same_size_lem;
@@ -324,24 +321,3 @@ written_all k xs old out n i e z big all_in w = ext_get_or 0 out (over (planes k
         ∙ sym (get_or-drop (length (planes k xs)) old (p - k * n) 0)
         ∙ sym (get_or-append-add (planes k xs) (drop (length (planes k xs)) old) (p - k * n) 0)
         ∙ ap (λ (i : ℕ). get_or (over (planes k xs) old) i 0) s
-
--- with another function that has the same eight values
-pub turned_same : (k n i : ℕ) (f g : ℕ → ℕ) (old new : List ℕ) → Turned k n i f old new → ((e : ℕ) → e < 8 → f e ≡ g e) → Turned k n i g old new
-turned_same k n i f g old new t h = record {
-  same_size = t.same_size;
-  kept = t.kept;
-  written = λ j e a b. t.written j e a b ∙ ap (λ (x : ℕ). byte_at x j) (h e b);
-  behind = t.behind;
-}
-
-pub eight_values : (a b c d e f g h : ℕ) (v : ℕ → ℕ) → a ≡ v 0 → b ≡ v 1 → c ≡ v 2 → d ≡ v 3 → e ≡ v 4 → f ≡ v 5 → g ≡ v 6 → h ≡ v 7
-    → (p : ℕ) → p < 8 → eight_of a b c d e f g h p ≡ v p
-eight_values a b c d e f g h v p0 p1 p2 p3 p4 p5 p6 p7 zero l = p0
-eight_values a b c d e f g h v p0 p1 p2 p3 p4 p5 p6 p7 (suc zero) l = p1
-eight_values a b c d e f g h v p0 p1 p2 p3 p4 p5 p6 p7 (suc (suc zero)) l = p2
-eight_values a b c d e f g h v p0 p1 p2 p3 p4 p5 p6 p7 (suc (suc (suc zero))) l = p3
-eight_values a b c d e f g h v p0 p1 p2 p3 p4 p5 p6 p7 (suc (suc (suc (suc zero)))) l = p4
-eight_values a b c d e f g h v p0 p1 p2 p3 p4 p5 p6 p7 (suc (suc (suc (suc (suc zero))))) l = p5
-eight_values a b c d e f g h v p0 p1 p2 p3 p4 p5 p6 p7 (suc (suc (suc (suc (suc (suc zero)))))) l = p6
-eight_values a b c d e f g h v p0 p1 p2 p3 p4 p5 p6 p7 (suc (suc (suc (suc (suc (suc (suc zero))))))) l = p7
-eight_values a b c d e f g h v p0 p1 p2 p3 p4 p5 p6 p7 (suc (suc (suc (suc (suc (suc (suc (suc p)))))))) l = absurd (omega arith)

@@ -1,5 +1,5 @@
 -- Eight numbers of eight bytes, turned: row j has byte j of each, as plane j of a split page has. The code writes eight elements at a time by this.
-use Rattle.std.specs.Prelude.{◌≡◌, ℕ, zero, suc, ◌+◌, ◌-◌, ◌*◌, ◌/◌, ◌%◌, ◌^◌, ◌<◌, ◌≤◌, Bool, true, List, length, bit_and, bit_or, slice_index}
+use Rattle.std.specs.Prelude.{◌≡◌, ℕ, zero, suc, ◌+◌, ◌*◌, ◌/◌, ◌<◌, ◌≤◌, Bool, true, List, length, bit_and, bit_or, slice_index}
 use Rattle.coding.specs.Layout.{DeltaWidth, SplitWidth}
 use Rattle.coding.specs.Strides.{puts}
 use Rattle.planes.specs.Plane.{byte_at}

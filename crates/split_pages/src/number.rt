@@ -1,4 +1,6 @@
 // Numbers of one, two, four and eight bytes, the least significant first, stored. Each by its halves, so that the compiler makes one store of it.
+// With a loop over the eight bytes, pages of split elements of 16 and 32 bits take two to three times as long. One function by halves would call itself
+// with a const parameter that is computed, which Rattle has not.
 ghost use Rattle.std.specs.Prelude.{◌≡◌, ℕ, ◌+◌, ◌-◌, ◌*◌, ◌/◌, ◌%◌, ◌^◌, ◌<◌, ◌≤◌, length};
 ghost use Rattle.coding.specs.Strides.{puts};
 

@@ -52,10 +52,8 @@ fn write_eights(delta: bool, zigzag: bool, width: u64, words: &[u64], out: &mut 
     ensures { out.new ≡ over (planes (width / 8) (codes delta zigzag width 0 words.now)) out.old }
 {
     let last = words.len() - 8;
-    let mut i = 0;
-    while i < last {
+    for i in (0..last).step_by(8) {
         write_eight(delta, zigzag, width, words, i, out);
-        i += 8;
     }
     write_eight(delta, zigzag, width, words, last, out);
 }
@@ -67,10 +65,8 @@ pub fn write_few(delta: bool, zigzag: bool, width: u64, words: &[u64], out: &mut
 {
     let n = words.len();
     let size = n * ((width / 8) as usize);
-    let mut p = 0;
-    while p < size {
+    for p in 0..size {
         out[p] = byte_of(code_at(delta, zigzag, width, words, p % n), p / n);
-        p += 1;
     }
 }
 

@@ -4,3 +4,4 @@ pub mod Sealing
 pub mod Laid
 pub mod Answers
 pub mod Counting
+pub mod FramedLaws

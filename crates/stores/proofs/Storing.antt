@@ -7,6 +7,8 @@ use native.Mathlib.Nat.{add-zero, zero-add}
 use native.Mathlib.Numerals.{add-one}
 use lib.ListN.{length, take, drop, set, length-append}
 use lib.Seq.{sets, length-sets, sets-eq, set-append_seam, length-take-le, paste, take-length}
+use borrow.Rule.Slice.PartMut.{put_mid}
+use Rattle.std.proofs.lemmas.Slice.{put_mid-paste}
 use Rattle.numbers.specs.Rows.{over}
 use Rattle.coding.specs.Strides.{puts}
 use Rattle.tree.specs.Bytes.{spelled}
@@ -103,6 +105,11 @@ stored_as_lem {a} {b} {at} {e} same s = subst (λ (l : List ℕ). Stored a at l 
 -- a copy of all bytes
 pub pasted : (old : List ℕ) (at : ℕ) (bytes : List ℕ) (n : ℕ) → n ≡ length bytes → at + length bytes ≤ length old → paste old at bytes n ≡ sets old at bytes
 pasted old at bytes n e room = ap (paste old at bytes) e ∙ ap (λ (l : List ℕ). take at old ++ l ++ drop (at + length bytes) old) (take-length bytes) ∙ sym (sets-eq bytes old at room)
+
+-- a copy into the part of the lent bytes that starts there
+pub stored_part : {old : List ℕ} {at n : ℕ} {bytes part : List ℕ} → part ≡ bytes → n ≡ length bytes → at + n ≤ length old → Stored old at bytes (put_mid at (at + n - at) old part) (at + n)
+stored_part {old} {at} {n} {bytes} {part} same long room =
+    stored_all (put_mid-paste at (at + n - at) old part bytes n same (omega arith) long ∙ pasted old at bytes n long (omega arith)) long
 
 -- a record frame of a known size, which is stored first
 pub stored_sized : {a b c : List ℕ} {at m e : ℕ} (size : ℕ) (body : List ℕ) → 4 + length body ≡ size → Stored a at (spelled 4 size) b m → Stored b m body c e

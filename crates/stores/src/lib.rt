@@ -2,11 +2,15 @@
 // stored; where there is no room it stores less, or nothing, and its answer says nothing.
 #![tactic(auto)]
 
+mod framed;
+
 ghost use Rattle.std.specs.Prelude.{◌≡◌, ◌++◌, ◌+◌, ◌-◌, ◌^◌, ◌≤◌, length, take};
 ghost use Rattle.std.proofs.lemmas.List.Edits.{sets};
 ghost use Rattle.checksum.specs.Crc.{crc32};
 ghost use Rattle.tree.specs.Bytes.{spelled};
 ghost use Rattle.stores.specs.Stored.{Stored};
+
+pub use framed::{store_list, store_rows};
 
 // The k lowest bytes of a number, the least significant first. With k a literal the compiler makes one store of them; the room is tested by
 // two comparisons of which the first does not hang on the place, so that a loop makes it once.
@@ -20,11 +24,9 @@ fn store_number(k: usize, x: u64, at: usize, out: &mut [u8]) -> usize
         return at;
     }
     let mut rest = x;
-    let mut j: usize = 0;
-    while j < k {
+    for j in 0..k {
         out[at + j] = (rest % 256) as u8;
         rest = rest / 256;
-        j += 1;
     }
     at + k
 }
@@ -47,17 +49,13 @@ pub fn store_8(x: u64, at: usize, out: &mut [u8]) -> usize
     store_number(8, x, at, out)
 }
 
-// Bytes as they are. The compiler makes one copy of the loop.
+// Bytes as they are.
 pub fn store_bytes(bytes: &[u8], at: usize, out: &mut [u8]) -> usize
     ensures { Stored out.old at bytes.now out.new result }
 {
     if numbers::has_room(out, at, bytes.len()) {
-        let mut i = 0;
-        while i < bytes.len() {
-            out[at + i] = bytes[i];
-            i += 1;
-        }
-        return at + i;
+        out[at..at + bytes.len()].copy_from_slice(bytes);
+        return at + bytes.len();
     }
     at
 }

@@ -4,17 +4,10 @@
 ghost use Rattle.std.specs.Prelude.{◌≡◌};
 ghost use Rattle.utf8.specs.WellFormed.{well_formed};
 ghost use Rattle.text.specs.Strings.{string};
-ghost use Rattle.text.specs.Answers.{text_step};
+ghost use Rattle.wire.specs.Answers.{as_step};
 
 use rows::Text;
-use wire::{Fault, Kind};
-
-// A string and the place after it, or a refusal.
-#[derive(Clone, Copy)]
-pub enum TextStep {
-    Found(Text, usize),
-    Refused(Fault),
-}
+use wire::{Kind, Step};
 
 // The bytes are well-formed UTF-8. Most names are ASCII: that is tested here, with no call, and the rest in a function of its own.
 fn is_text(s: &[u8]) -> bool
@@ -27,8 +20,8 @@ fn is_text(s: &[u8]) -> bool
 }
 
 // The string whose length stands at `at`.
-pub fn string_at(s: &[u8], at: usize) -> TextStep
-    ensures { text_step result ≡ string s.now at }
+pub fn string_at(s: &[u8], at: usize) -> Step<Text>
+    ensures { as_step result ≡ string s.now at }
 {
     if numbers::has_room(s, at, 4) {
         let from = at + 4;
@@ -36,11 +29,11 @@ pub fn string_at(s: &[u8], at: usize) -> TextStep
         if numbers::has_room(s, from, len) {
             let to = from + len;
             if is_text(&s[from..to]) {
-                return TextStep::Found(Text { place: from, len }, to);
+                return Ok((Text { place: from, len }, to));
             }
-            return TextStep::Refused(wire::fault_at(9, Kind::Text, at));
+            return Err(wire::fault_at(9, Kind::Text, at));
         }
-        return TextStep::Refused(wire::fault_at(7, Kind::Text, at));
+        return Err(wire::fault_at(7, Kind::Text, at));
     }
-    TextStep::Refused(wire::fault_at(7, Kind::Text, at))
+    Err(wire::fault_at(7, Kind::Text, at))
 }

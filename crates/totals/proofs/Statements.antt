@@ -1,5 +1,5 @@
 -- The totals agree exactly where no field is at fault, and a field that is named is the lowest at fault. Assumes nothing.
-use Prim.Native.Nat.{ℕ, zero, suc, ◌+◌, ◌≤◌, ◌<◌}
+use Prim.Native.Nat.{ℕ, zero, suc, ◌+◌, ◌<◌}
 use mathlib.Core.Path.{◌≡◌, refl, sym, ap, subst, ◌∙◌}
 use mathlib.Core.Bool.{Bool, true, false}
 use mathlib.Core.List.{List, [], ◌∷◌}
@@ -10,13 +10,13 @@ use Rattle.numbers.specs.Choice.{pick}
 use Rattle.rows.specs.declared.ColumnRow.{ColumnRow}
 use Rattle.totals.specs.Totals.{field_agrees, totals}
 use Rattle.totals.specs.Statements.{AtFault, AgreeTells, LowestTells}
-use Rattle.totals.specs.declared.Totals.{Totals}
-use Rattle.totals.specs.declared.Totals.TheVariants.{Agree, Differ}
+use Rattle.std.specs.Prelude.{Option, Some, None}
+use Rattle.rows.specs.declared.FieldNumber.{FieldNumber}
 
 -- the field that an answer names
-abbrev named : Totals → ℕ
-named Agree = 0
-named (Differ f) = f.0
+abbrev named : Option FieldNumber → ℕ
+named None = 0
+named (Some f) = f.0
 
 module _ (entries : ℕ) (cs : List ColumnRow) (sums : List ℕ) where
   -- field j of those from number i on agrees
@@ -31,21 +31,21 @@ module _ (entries : ℕ) (cs : List ColumnRow) (sums : List ℕ) where
   later i p w parents flags j = let e : i + suc j ≡ suc i + j = omega arith in ap (λ (k : ℕ). field_agrees entries cs sums k (get_or parents j 0) (get_or flags j 0)) e
 
   -- where the totals agree, each field does
-  each : (i : ℕ) (parents flags : List ℕ) → totals entries cs sums i parents flags ≡ Agree → (j : ℕ) → j < length parents → j < length flags → Agrees i parents flags j ≡ true
+  each : (i : ℕ) (parents flags : List ℕ) → totals entries cs sums i parents flags ≡ None → (j : ℕ) → j < length parents → j < length flags → Agrees i parents flags j ≡ true
   unfolding totals
   each i [] flags e j h g = absurd (omega arith)
   each i (p ∷ parents) [] e j h g = absurd (omega arith)
   each i (p ∷ parents) (w ∷ flags) e j h g = by (each (suc i) parents flags) (field_agrees entries cs sums i p w) refl e j h g
     where
-      by : (totals entries cs sums (suc i) parents flags ≡ Agree → (j : ℕ) → j < length parents → j < length flags → Agrees (suc i) parents flags j ≡ true)
-          → (b : Bool) → field_agrees entries cs sums i p w ≡ b → pick b (totals entries cs sums (suc i) parents flags) (Differ (record { 0 = i })) ≡ Agree
+      by : (totals entries cs sums (suc i) parents flags ≡ None → (j : ℕ) → j < length parents → j < length flags → Agrees (suc i) parents flags j ≡ true)
+          → (b : Bool) → field_agrees entries cs sums i p w ≡ b → pick b (totals entries cs sums (suc i) parents flags) (Some (record { 0 = i })) ≡ None
           → (j : ℕ) → j < suc (length parents) → j < suc (length flags) → Agrees i (p ∷ parents) (w ∷ flags) j ≡ true
       by rest true a e zero h g = first i p w parents flags ∙ a
       by rest true a e (suc j) h g = later i p w parents flags j ∙ rest e j (omega arith) (omega arith)
       by rest false a e j h g = let z : ◌≡◌ {A = ℕ} 0 1 = cc in absurd (omega arith)
 
   -- where each field agrees, the totals do
-  all : (i : ℕ) (parents flags : List ℕ) → ((j : ℕ) → j < length parents → j < length flags → Agrees i parents flags j ≡ true) → totals entries cs sums i parents flags ≡ Agree
+  all : (i : ℕ) (parents flags : List ℕ) → ((j : ℕ) → j < length parents → j < length flags → Agrees i parents flags j ≡ true) → totals entries cs sums i parents flags ≡ None
   unfolding totals
   all i [] flags a = refl
   all i (p ∷ parents) [] a = refl
@@ -61,14 +61,14 @@ module _ (entries : ℕ) (cs : List ColumnRow) (sums : List ℕ) where
     differs : Agrees i parents flags k ≡ false
     lower : (j : ℕ) → j < k → Agrees i parents flags j ≡ true
 
-  lowest : (i : ℕ) (parents flags : List ℕ) (f : ℕ) → totals entries cs sums i parents flags ≡ Differ (record { 0 = f }) → Lowest i parents flags f
+  lowest : (i : ℕ) (parents flags : List ℕ) (f : ℕ) → totals entries cs sums i parents flags ≡ Some (record { 0 = f }) → Lowest i parents flags f
   unfolding totals
   lowest i [] flags f e = let z : ◌≡◌ {A = ℕ} 0 1 = cc in absurd (omega arith)
   lowest i (p ∷ parents) [] f e = let z : ◌≡◌ {A = ℕ} 0 1 = cc in absurd (omega arith)
   lowest i (p ∷ parents) (w ∷ flags) f e = by (lowest (suc i) parents flags f) (field_agrees entries cs sums i p w) refl e
     where
-      by : (totals entries cs sums (suc i) parents flags ≡ Differ (record { 0 = f }) → Lowest (suc i) parents flags f)
-          → (b : Bool) → field_agrees entries cs sums i p w ≡ b → pick b (totals entries cs sums (suc i) parents flags) (Differ (record { 0 = i })) ≡ Differ (record { 0 = f })
+      by : (totals entries cs sums (suc i) parents flags ≡ Some (record { 0 = f }) → Lowest (suc i) parents flags f)
+          → (b : Bool) → field_agrees entries cs sums i p w ≡ b → pick b (totals entries cs sums (suc i) parents flags) (Some (record { 0 = i })) ≡ Some (record { 0 = f })
           → Lowest i (p ∷ parents) (w ∷ flags) f
       by rest true a e =
           let r = rest e in

@@ -1,10 +1,9 @@
 -- The totals: of each top-level field with neither flag, the elements of its first column against the cluster's entries.
-use Rattle.std.specs.Prelude.{ℕ, suc, List, [], ◌∷◌, Bool, true, eqb}
+use Rattle.std.specs.Prelude.{ℕ, suc, List, [], ◌∷◌, Bool, true, eqb, Option, Some, None}
 use Rattle.numbers.specs.Choice.{pick, both}
 use Rattle.column_type.specs.Types.{known}
 use Rattle.rows.specs.declared.ColumnRow.{ColumnRow}
-use Rattle.totals.specs.declared.Totals.{Totals}
-use Rattle.totals.specs.declared.Totals.TheVariants.{Agree, Differ}
+use Rattle.rows.specs.declared.FieldNumber.{FieldNumber}
 
 -- a column's elements are as many as the cluster has entries, where its type is known
 abbrev pub agrees : ℕ → ℕ → ℕ → Bool
@@ -25,8 +24,8 @@ abbrev pub field_agrees : ℕ → List ColumnRow → List ℕ → ℕ → ℕ �
 field_agrees entries cs sums i parent flags = pick (counts i parent flags) (total_of entries i cs sums) true
 
 -- the lowest field, from number i on, whose totals do not agree, where the fields have these parents and flags
-unfoldable pub totals : ℕ → List ColumnRow → List ℕ → ℕ → List ℕ → List ℕ → Totals
-totals entries cs sums i [] flags = Agree
-totals entries cs sums i (p ∷ parents) [] = Agree
+unfoldable pub totals : ℕ → List ColumnRow → List ℕ → ℕ → List ℕ → List ℕ → Option FieldNumber
+totals entries cs sums i [] flags = None
+totals entries cs sums i (p ∷ parents) [] = None
 totals entries cs sums i (p ∷ parents) (w ∷ flags) =
-    pick (field_agrees entries cs sums i p w) (totals entries cs sums (suc i) parents flags) (Differ (record { 0 = i }))
+    pick (field_agrees entries cs sums i p w) (totals entries cs sums (suc i) parents flags) (Some (record { 0 = i }))

@@ -27,7 +27,7 @@ use Rattle.footer.specs.declared.FooterAnswer.TheVariants.{Accepted as AcceptedF
 use Rattle.column_pages.specs.ColumnPages.{bits_of, pages_of}
 use Rattle.pages.specs.Pages.{elements_of}
 use Rattle.totals.specs.Totals.{totals}
-use Rattle.totals.specs.declared.Totals.TheVariants.{Agree}
+use Rattle.std.specs.Prelude.{None}
 use Rattle.page_list.specs.PageList.{totals_of, page_list_of}
 use Rattle.page_list.specs.Tables.{page_list_beside, answer as pagesAnswer, outcome_of as pageListOutcome, room_for as pagesRoom, Answered as AnsweredPages}
 use Rattle.page_list.specs.declared.PageListAnswer.{PageListAnswer}
@@ -208,7 +208,7 @@ totals_by e h t same entries pss =
     ∙ ap (totals_in entries pss) same
 
 totals_agree : (e : List ℕ) (h : Header) (t : HeaderContent) → header_content e h ≡ t → (entries : ℕ) {pss pss' : List (List PageRow)} → pss ≡ pss'
-    → totals_of entries h.lists pss ≡ Agree → totals_in entries pss' t ≡ Agree
+    → totals_of entries h.lists pss ≡ None → totals_in entries pss' t ≡ None
 totals_agree e h t same entries {pss} rows total = rw (← rows) (sym (totals_by e h t same entries pss) ∙ total)
 
 columns_of : (e : List ℕ) (h : Header) (t : HeaderContent) → header_content e h ≡ t → h.lists.columns ≡ t.columns

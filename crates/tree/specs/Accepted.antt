@@ -11,8 +11,8 @@ use Rattle.footer.specs.declared.FooterAnswer.{FooterAnswer}
 use Rattle.column_pages.specs.ColumnPages.{bits_of}
 use Rattle.pages.specs.Pages.{elements_of}
 use Rattle.totals.specs.Totals.{totals}
-use Rattle.totals.specs.declared.Totals.{Totals}
-use Rattle.totals.specs.declared.Totals.TheVariants.{Agree}
+use Rattle.std.specs.Prelude.{Option, None}
+use Rattle.rows.specs.declared.FieldNumber.{FieldNumber}
 use Rattle.rows.specs.declared.PageRow.{PageRow}
 use Rattle.page_list.specs.Tables.{page_list_beside, outcome_of as pageListOutcome, Answered as AnsweredPages}
 use Rattle.page_list.specs.declared.PageListAnswer.{PageListAnswer}
@@ -77,7 +77,7 @@ FooterAccepted =
 -- Page lists, each beside a header.
 
 -- what the totals say of pages beside what a header's tree says; they look only at numbers
-abbrev pub totals_in : ℕ → List (List PageRow) → HeaderContent → Totals
+abbrev pub totals_in : ℕ → List (List PageRow) → HeaderContent → Option FieldNumber
 totals_in entries pss c =
     totals entries c.columns (map elements_of pss) 0 (map (λ (f : FieldContent). f.head.parent.0) c.fields) (map (λ (f : FieldContent). f.head.flags) c.fields)
 
@@ -87,7 +87,7 @@ pub record PageListFits (e l : List ℕ) (entries file p : ℕ) : Type 0 where
   pub right : RightPageList file (bits_of (tables_of header.tree).columns) tree
   pub bytes : render_page_list tree ≡ l
   pub small : length l ≤ ceiling
-  pub agree : totals_in entries (page_rows 0 (page_list_carrier.content tree.inside)) (tables_of header.tree) ≡ Agree
+  pub agree : totals_in entries (page_rows 0 (page_list_carrier.content tree.inside)) (tables_of header.tree) ≡ None
   pub pages_fit : pages_in (page_list_carrier.content tree.inside) ≤ p / page_width
 
 abbrev pub page_list_counts : {e l : List ℕ} {entries file p : ℕ} → PageListFits e l entries file p → List ℕ

@@ -15,9 +15,7 @@ fn last_word(s: &[u8], at: usize) -> u64
     ensures { result ≡ little (length s.now - at) s.now at }
 {
     let mut word: u64 = 0;
-    let mut i = s.len();
-    while at < i {
-        i -= 1;
+    for i in (at..s.len()).rev() {
         word = word * 256 + wide(s[i]);
     }
     word
@@ -37,12 +35,10 @@ pub fn count_all(s: &[u8]) -> u64
 {
     let words = s.len() / 8;
     let mut total: u64 = 0;
-    let mut i = 0;
-    while i < words {
+    for i in 0..words {
         let from = 8 * i;
         let end = from + 8;
         total += count(numbers::little_8(&s[from..end], 0));
-        i += 1;
     }
     total + count(last_word(s, 8 * words))
 }

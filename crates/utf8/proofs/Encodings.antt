@@ -6,7 +6,7 @@ use mathlib.Core.List.{List, [], ◌∷◌, ◌++◌}
 use native.Mathlib.Omega.{arith}
 use Rattle.numbers.specs.Choice.{both}
 use Rattle.numbers.specs.Rows.{flat}
-use Rattle.utf8.specs.WellFormed.{Range, inside, trailing, nothing, goes_on, well_formed}
+use Rattle.utf8.specs.WellFormed.{Range, inside, trailing, goes_on, well_formed}
 use Rattle.utf8.specs.Scalars.{scalar, scalars, encoded}
 use Rattle.numbers.proofs.Choice.{both_true}
 use Rattle.utf8.proofs.Rows.{in_range, due_one, due_two, due_three, due_four}

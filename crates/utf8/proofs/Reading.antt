@@ -10,25 +10,34 @@ use lib.Seq.{drop-drop, length-take-le, take-length}
 use borrow.Author.Tests.{ltb-true, ltb-false}
 use Rattle.numbers.specs.Choice.{pick, both}
 use Rattle.numbers.proofs.Choice.{both_true}
-use Rattle.utf8.specs.declared.Progress.{Progress}
-use Rattle.utf8.specs.declared.Progress.TheVariants.{At, Ill}
+use Rattle.std.specs.Prelude.{Option, Some, None}
 use Rattle.utf8.specs.WellFormed.{Range, inside, table, due, goes_on, well_formed}
-use Rattle.utf8.specs.Walking.{ascii, begins, width, reach, read_to, and_then, sound}
+use Rattle.utf8.specs.Walking.{ascii, begins, width, sized, reach, read_to, and_then, sound}
 use Rattle.utf8.proofs.Rows.{due_one, begins_length}
 
-pub at_is : {p q : ℕ} → At p ≡ At q → p ≡ q
+pub at_is : {p q : ℕ} → Some p ≡ Some q → p ≡ q
 at_is e = cc
 
-pub at_not_ill : {A : Type 0} {p : ℕ} → Ill ≡ At p → A
+pub at_not_ill : {A : Type 0} {p : ℕ} → None ≡ Some p → A
 at_not_ill e = let z : ◌≡◌ {A = ℕ} 0 1 = cc in absurd (omega arith)
 
-reach_none : (p : ℕ) (s : List ℕ) → reach [] 0 p s ≡ At p
+-- what a size tells of the sequence
+
+pub sized_is : {k : ℕ} (w : ℕ) → sized w ≡ Some k → (k ≡ w) × (0 < k)
+sized_is zero e = absurd (let z : ◌≡◌ {A = ℕ} 0 1 = cc in omega arith)
+sized_is (suc w) e = let f = at_is e in (omega arith, omega arith)
+
+pub sized_not : (w : ℕ) → sized w ≡ None → w ≡ 0
+sized_not zero e = refl
+sized_not (suc w) e = absurd (let z : ◌≡◌ {A = ℕ} 0 1 = cc in omega arith)
+
+reach_none : (p : ℕ) (s : List ℕ) → reach [] 0 p s ≡ Some p
 unfolding reach
 reach_none p [] = refl
 reach_none p (b ∷ s) = refl
 
 -- the bytes that are due, and what comes after them
-reach_due : (rs : List Range) (n p : ℕ) (s : List ℕ) → reach rs n p s ≡ pick (begins rs s) (reach [] (n - length rs) (p + length rs) (drop (length rs) s)) Ill
+reach_due : (rs : List Range) (n p : ℕ) (s : List ℕ) → reach rs n p s ≡ pick (begins rs s) (reach [] (n - length rs) (p + length rs) (drop (length rs) s)) None
 unfolding reach begins
 reach_due [] n p s =
     let e : n - 0 ≡ n = omega arith in
@@ -40,13 +49,13 @@ reach_due (r ∷ rs) n p (b ∷ s) =
     let f : p + 1 + length rs ≡ p + suc (length rs) = omega arith in
     by (reach rs (n - 1) (p + 1) s) _ (inside r b) (reach_due rs (n - 1) (p + 1) s ∙ rw (e, f))
   where
-    by : (x y : Progress) (t : Bool) → x ≡ pick (begins rs s) y Ill → pick t x Ill ≡ pick (both t (begins rs s)) y Ill
+    by : (x y : Option ℕ) (t : Bool) → x ≡ pick (begins rs s) y None → pick t x None ≡ pick (both t (begins rs s)) y None
     by x y true e = e
     by x y false e = refl
 
 -- the sequence in front: how many bytes it has decides
-abbrev onwards : ℕ → ℕ → List ℕ → ℕ → Progress
-onwards n p s zero = Ill
+abbrev onwards : ℕ → ℕ → List ℕ → ℕ → Option ℕ
+onwards n p s zero = None
 onwards n p s (suc k) = reach [] (n - suc k) (p + suc k) (drop (suc k) s)
 
 reach_first : (n p : ℕ) (s : List ℕ) → 0 < n → reach [] n p s ≡ onwards n p s (width s)
@@ -73,13 +82,13 @@ width_fits (b ∷ s) = by (begins (due table b) s) refl
     by true e = omega (arith, begins_length (due table b) s e)
     by false e = omega arith
 
-reach_ascii : (p : ℕ) (s t : List ℕ) → ascii s ≡ true → reach [] (length s) p (s ++ t) ≡ At (p + length s)
+reach_ascii : (p : ℕ) (s t : List ℕ) → ascii s ≡ true → reach [] (length s) p (s ++ t) ≡ Some (p + length s)
 unfolding ascii reach
-reach_ascii p [] t e = let f : p ≡ p + 0 = omega arith in reach_none p t ∙ ap At f
+reach_ascii p [] t e = let f : p ≡ p + 0 = omega arith in reach_none p t ∙ ap Some f
 reach_ascii p (b ∷ s) t e =
     let (small, rest) = both_true (ltb b 128) (ascii s) e in
     let f : p + 1 + length s ≡ p + suc (length s) = omega arith in
-    ap (λ (rs : List Range). reach rs (length s) (p + 1) (s ++ t)) (due_one b (ltb-true b 128 small)) ∙ reach_ascii (p + 1) s t rest ∙ ap At f
+    ap (λ (rs : List Range). reach rs (length s) (p + 1) (s ++ t)) (due_one b (ltb-true b 128 small)) ∙ reach_ascii (p + 1) s t rest ∙ ap Some f
 
 -- the bytes are well-formed exactly when they are read to their end
 reach_all : (rs : List Range) (p : ℕ) (s : List ℕ) → goes_on rs s ≡ sound (reach rs (length s) p s)
@@ -89,7 +98,7 @@ reach_all [] p (b ∷ s) = reach_all (due table b) (p + 1) s
 reach_all (r ∷ rs) p [] = refl
 reach_all (r ∷ rs) p (b ∷ s) = let e : suc (length s) - 1 ≡ length s = omega arith in rw e (by (reach rs (length s) (p + 1) s) (inside r b) (reach_all rs (p + 1) s))
   where
-    by : {g : Bool} (x : Progress) (t : Bool) → g ≡ sound x → both t g ≡ sound (pick t x Ill)
+    by : {g : Bool} (x : Option ℕ) (t : Bool) → g ≡ sound x → both t g ≡ sound (pick t x None)
     by x true e = e
     by x false e = refl
 
@@ -98,10 +107,10 @@ module _ (s : List ℕ) where
   unfolding well_formed
   read_all = let e : length s - 0 ≡ length s = omega arith in rw e (reach_all [] 0 s)
 
-  pub read_none : (at end : ℕ) → end ≤ at → read_to s at end ≡ At at
+  pub read_none : (at end : ℕ) → end ≤ at → read_to s at end ≡ Some at
   read_none at end h = let e : end - at ≡ 0 = omega arith in rw e (reach_none at (drop at s))
 
-  pub read_ill : (at end : ℕ) → at < end → width (drop at s) ≡ 0 → read_to s at end ≡ Ill
+  pub read_ill : (at end : ℕ) → at < end → width (drop at s) ≡ 0 → read_to s at end ≡ None
   read_ill at end h e = reach_first (end - at) at (drop at s) (omega arith) ∙ rw e
 
   pub read_next : (at end k : ℕ) → at < end → k ≡ width (drop at s) → 0 < k → read_to s at end ≡ read_to s (at + k) end
@@ -110,7 +119,7 @@ module _ (s : List ℕ) where
       let f : end - at - suc k ≡ end - (at + suc k) = omega arith in
       reach_first (end - at) at (drop at s) (omega arith) ∙ rw (← e, f, drop-drop (suc k) at s)
 
-  pub read_ascii : (at k : ℕ) → at + k ≤ length s → ascii (take k (drop at s)) ≡ true → read_to s at (at + k) ≡ At (at + k)
+  pub read_ascii : (at k : ℕ) → at + k ≤ length s → ascii (take k (drop at s)) ≡ true → read_to s at (at + k) ≡ Some (at + k)
   read_ascii at k h e =
       let long : length (take k (drop at s)) ≡ k = length-take-le k (drop at s) (omega (arith, length-drop at s)) in
       let f : at + k - at ≡ k = omega arith in
@@ -119,7 +128,7 @@ module _ (s : List ℕ) where
   pub ascii_well_formed : ascii s ≡ true → well_formed s ≡ true
   ascii_well_formed e =
       let f : 0 + length s ≡ length s = omega arith in
-      let read : read_to s 0 (0 + length s) ≡ At (0 + length s) = read_ascii 0 (length s) (omega arith) (rw (take-length s) e) in
+      let read : read_to s 0 (0 + length s) ≡ Some (0 + length s) = read_ascii 0 (length s) (omega arith) (rw (take-length s) e) in
       read_all ∙ ap sound (rw f at read)
 
   -- where a sequence at a place ends, it ends in the bytes
@@ -153,15 +162,15 @@ module _ (s : List ℕ) where
       (λ at k g e on. rw (read_next at middle (suc k) g e (omega arith), read_next at end (suc k) (omega arith) e (omega arith)) on)
 
   -- where it stops: at the end or beyond it, in the bytes
-  pub read_stops : (end at p : ℕ) → read_to s at end ≡ At p → at ≤ length s → (end ≤ p) × (p ≤ length s)
-  read_stops end at p = by_sequences end (λ at. read_to s at end ≡ At p → at ≤ length s → (end ≤ p) × (p ≤ length s)) stops fails goes at
+  pub read_stops : (end at p : ℕ) → read_to s at end ≡ Some p → at ≤ length s → (end ≤ p) × (p ≤ length s)
+  read_stops end at p = by_sequences end (λ at. read_to s at end ≡ Some p → at ≤ length s → (end ≤ p) × (p ≤ length s)) stops fails goes at
     where
-      stops : (at : ℕ) → end ≤ at → read_to s at end ≡ At p → at ≤ length s → (end ≤ p) × (p ≤ length s)
+      stops : (at : ℕ) → end ≤ at → read_to s at end ≡ Some p → at ≤ length s → (end ≤ p) × (p ≤ length s)
       stops at h e l = let f : at ≡ p = at_is (sym (read_none at end h) ∙ e) in (omega arith, omega arith)
 
-      fails : (at : ℕ) → at < end → width (drop at s) ≡ 0 → read_to s at end ≡ At p → at ≤ length s → (end ≤ p) × (p ≤ length s)
+      fails : (at : ℕ) → at < end → width (drop at s) ≡ 0 → read_to s at end ≡ Some p → at ≤ length s → (end ≤ p) × (p ≤ length s)
       fails at h w e l = at_not_ill (sym (read_ill at end h w) ∙ e)
 
-      goes : (at k : ℕ) → at < end → suc k ≡ width (drop at s) → (read_to s (at + suc k) end ≡ At p → at + suc k ≤ length s → (end ≤ p) × (p ≤ length s))
-          → read_to s at end ≡ At p → at ≤ length s → (end ≤ p) × (p ≤ length s)
+      goes : (at k : ℕ) → at < end → suc k ≡ width (drop at s) → (read_to s (at + suc k) end ≡ Some p → at + suc k ≤ length s → (end ≤ p) × (p ≤ length s))
+          → read_to s at end ≡ Some p → at ≤ length s → (end ≤ p) × (p ≤ length s)
       goes at k h w on e l = on (sym (read_next at end (suc k) h w (omega arith)) ∙ e) (omega (arith, next_fits at l))

@@ -3,24 +3,15 @@
 
 ghost use Rattle.std.specs.Prelude.{◌≡◌, ◌+◌, ◌≤◌, ◌<◌, length, drop, [], ◌∷◌};
 ghost use Rattle.utf8.specs.WellFormed.{well_formed, ◌to◌};
-ghost use Rattle.utf8.specs.Walking.{ascii, begins, width, limit, read_to, blocks_from};
-
-// Where whole sequences have been read to, or that one is ill-formed.
-#[derive(Clone, Copy)]
-enum Progress {
-    At(usize),
-    Ill,
-}
+ghost use Rattle.utf8.specs.Walking.{ascii, begins, width, sized, limit, read_to, blocks_from};
 
 // Every byte is below 128. The bits of all bytes are joined, which the compiler does many bytes at a time.
 pub fn is_ascii(s: &[u8]) -> bool
     ensures { result ≡ ascii s.now }
 {
     let mut all: u8 = 0;
-    let mut i = 0;
-    while i < s.len() {
-        all = all | s[i];
-        i += 1;
+    for byte in s {
+        all |= *byte;
     }
     all < 128
 }
@@ -52,103 +43,91 @@ fn limit(first: u8, one: u8, after_one: u8, other: u8, after_other: u8, plain: u
     plain
 }
 
-// How many bytes the sequence at `at` has, 0 where it is ill-formed.
-fn sequence_at(s: &[u8], at: usize) -> usize
+// How many bytes the sequence at `at` has, None where it is ill-formed.
+fn sequence_at(s: &[u8], at: usize) -> Option<usize>
     requires { at < length s.now }
-    ensures { result ≡ width (drop at s.now) }
+    ensures { result ≡ sized (width (drop at s.now)) }
 {
     let first = s[at];
     if first < 0x80 {
-        return 1;
+        return Some(1);
     }
     if first < 0xC2 {
-        return 0;
+        return None;
     }
     if first < 0xE0 {
         if byte_in(s, at + 1, 0x80, 0xBF) {
-            return 2;
+            return Some(2);
         }
-        return 0;
+        return None;
     }
     if 0xF4 < first {
-        return 0;
+        return None;
     }
     let least = limit(first, 0xE0, 0xA0, 0xF0, 0x90, 0x80);
     let most = limit(first, 0xED, 0x9F, 0xF4, 0x8F, 0xBF);
     if !byte_in(s, at + 1, least, most) {
-        return 0;
+        return None;
     }
     if !byte_in(s, at + 2, 0x80, 0xBF) {
-        return 0;
+        return None;
     }
     if first < 0xF0 {
-        return 3;
+        return Some(3);
     }
     if !byte_in(s, at + 3, 0x80, 0xBF) {
-        return 0;
+        return None;
     }
-    4
+    Some(4)
 }
 
-// Sequence by sequence from `from` on, up to `end` or to the end of the sequence that crosses it.
-fn walk(s: &[u8], from: usize, end: usize) -> Progress
+// Where whole sequences have been read to, from `from` on, sequence by sequence, up to `end` or to the end of the sequence that crosses it.
+// None where one is ill-formed.
+fn walk(s: &[u8], from: usize, end: usize) -> Option<usize>
     requires { (from ≤ length s.now) × (end ≤ length s.now) }
     ensures { result ≡ read_to s.now from end }
 {
     let mut at = from;
     while at < end {
-        let width = sequence_at(s, at);
-        if width == 0 {
-            return Progress::Ill;
-        }
+        let width = sequence_at(s, at)?;
         at += width;
     }
-    Progress::At(at)
+    Some(at)
 }
 
 // The same over `size` bytes, at once where they are ASCII.
-fn block(s: &[u8], from: usize, size: usize) -> Progress
+fn block(s: &[u8], from: usize, size: usize) -> Option<usize>
     requires { from + size ≤ length s.now }
     ensures { result ≡ read_to s.now from (from + size) }
 {
     let end = from + size;
     if is_ascii(&s[from..end]) {
-        return Progress::At(end);
+        return Some(end);
     }
     walk(s, from, end)
 }
 
 // The same over as many blocks of `size` bytes as there are.
-fn blocks(s: &[u8], from: usize, size: usize) -> Progress
+fn blocks(s: &[u8], from: usize, size: usize) -> Option<usize>
     requires { (from ≤ length s.now) × (0 < size) }
     ensures { result ≡ blocks_from (length s.now) s.now size from }
 {
     let mut at = from;
     while size <= s.len() - at {
-        match block(s, at, size) {
-            Progress::At(next) => {
-                at = next;
-            }
-            Progress::Ill => {
-                return Progress::Ill;
-            }
-        }
+        at = block(s, at, size)?;
     }
-    Progress::At(at)
+    Some(at)
 }
 
 // Whether the bytes are well-formed UTF-8: large blocks first, then words of 8 bytes, then what is left.
 pub fn well_formed(s: &[u8]) -> bool
     ensures { result ≡ well_formed s.now }
 {
-    let Progress::At(large) = blocks(s, 0, 32) else {
+    let Some(large) = blocks(s, 0, 32) else {
         return false;
     };
-    let Progress::At(small) = blocks(s, large, 8) else {
+    let Some(small) = blocks(s, large, 8) else {
         return false;
     };
-    let Progress::At(_) = walk(s, small, s.len()) else {
-        return false;
-    };
-    true
+    walk(s, small, s.len()).is_some()
 }

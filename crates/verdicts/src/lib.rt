@@ -2,6 +2,7 @@
 #![tactic(auto)]
 
 mod length;
+mod refused;
 
 ghost use Rattle.std.specs.Prelude.{◌≡◌, ltb, take, drop};
 ghost use Rattle.wire.specs.Reading.{unless};
@@ -9,6 +10,7 @@ ghost use Rattle.frames.specs.Frames.{at_most};
 ghost use Rattle.writing.specs.Piece.{first, text};
 
 pub use length::{grown, with_rows};
+pub use refused::first_of_rows;
 use rows::Text;
 
 // The first number that is too wide for a place of so many bits.

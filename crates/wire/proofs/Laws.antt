@@ -1,11 +1,13 @@
 -- Laws of the rules of reading, which the proofs of this crate and of those above it cite.
 use Prim.Native.Nat.{ℕ, suc, ◌+◌}
-use mathlib.Core.Path.{◌≡◌, refl, sym}
+use mathlib.Core.Path.{◌≡◌, refl, sym, ap}
 use mathlib.Core.Bool.{Bool, true, false}
 use mathlib.Core.List.{List}
 use native.Mathlib.Omega.{arith}
 use lib.ListN.{length}
 use lib.Dec.{eqb}
+use Rattle.std.specs.Prelude.{Result, Ok, Err, IsErrAnd}
+use Rattle.wire.specs.Answers.{as_step, place_step}
 use borrow.Author.Tests.{eqb-true}
 use Rattle.numbers.specs.Choice.{pick}
 use Rattle.numbers.specs.Numbers.{Room, Little}
@@ -87,3 +89,14 @@ judged_read verdict at e is = rw (e, is)
 pub judged_missing : (verdict : ℕ → ℕ) (at : ℕ) {x : Step ℕ} {f : Fault} → x ≡ refused f → refused f ≡ judged verdict at x
 unfolding judged
 judged_missing verdict at e = rw e
+
+-- a refusal that a `?` hands on: the result, and the step that it is
+pub handed_on : {A : Type 0} (r : Result A Fault) (f : Fault) → IsErrAnd r (λ e. e ≡ f) → r ≡ Err f
+handed_on (Ok x) f h = absurd h
+handed_on (Err e) f h = ap Err h
+
+pub passed_on : {A : Type 0} (r : Result (A × ℕ) Fault) (f : Fault) → IsErrAnd r (λ e. e ≡ f) → as_step r ≡ refused f
+passed_on r f h = ap as_step (handed_on r f h)
+
+pub place_passed_on : (r : Result ℕ Fault) (f : Fault) → IsErrAnd r (λ e. e ≡ f) → place_step r ≡ refused f
+place_passed_on r f h = ap place_step (handed_on r f h)

@@ -30,16 +30,5 @@ pub struct Fault {
     pub item: usize,
 }
 
-// A number and the place after it, or a refusal.
-#[derive(Clone, Copy)]
-pub enum NumberStep {
-    Found(u64, usize),
-    Refused(Fault),
-}
-
-// A place, or a refusal.
-#[derive(Clone, Copy)]
-pub enum PlaceStep {
-    Found(usize),
-    Refused(Fault),
-}
+// What was read and the place after it, or a refusal.
+pub type Step<T> = Result<(T, usize), Fault>;

@@ -31,8 +31,8 @@ use Rattle.clusters.specs.Clusters.{starts_at, entry_count, entries_of}
 use Rattle.footer.specs.Footer.{Footer, names}
 use Rattle.pages.specs.Pages.{running_total}
 use Rattle.column_pages.specs.ColumnPages.{bits_of, per_column}
-use Rattle.totals.specs.declared.Totals.{Totals}
-use Rattle.totals.specs.declared.Totals.TheVariants.{Agree, Differ}
+use Rattle.std.specs.Prelude.{Option, Some, None}
+use Rattle.rows.specs.declared.FieldNumber.{FieldNumber}
 use Rattle.page_list.specs.PageList.{totals_of}
 use Rattle.tree.specs.Shape.{NoVerdict, chars}
 use Rattle.tree.specs.Spelling.{footer_version}
@@ -188,10 +188,10 @@ page_gives file bits p =
     (and_gives (put_gives 4 31 (stored_as (bytes_for p.elements bits)) p.size refl (λ _. unless_allowed P (ltb p.size (2 ^ 31)) 17 _ refl (test_allowed P (eqb p.size (bytes_for p.elements bits)) 17 refl)))
     (and_gives (inside_gives file p.size (trailer (eqb p.bit 1)) p.offset refl refl) nothing_gives))
 
-totals_allowed : (t : Totals) → Allowed P (totals_number t)
+totals_allowed : (t : Option FieldNumber) → Allowed P (totals_number t)
 unfolding among
-totals_allowed Agree = refl
-totals_allowed (Differ f) = refl
+totals_allowed None = refl
+totals_allowed (Some f) = refl
 
 pub page_list_gives : (h : Header) (entries file : ℕ) (rows : List PageWords) → Gives P (page_list_piece h entries file rows)
 unfolding page_list_piece page_list_payload_piece among

@@ -16,8 +16,8 @@ use Rattle.page_list.specs.PageList.{total_fault, totals_of, agreed, summed, pag
 use Rattle.numbers.specs.Numbers.{bytes_for, trailer}
 use Rattle.pages.specs.Pages.{elements_in, checksum_in, page_word, page, running_total, pages}
 use Rattle.column_pages.specs.ColumnPages.{pages_of, bits_of, per_column, pages_after, payload}
-use Rattle.totals.specs.declared.Totals.{Totals}
-use Rattle.totals.specs.declared.Totals.TheVariants.{Agree, Differ}
+use Rattle.std.specs.Prelude.{Option, Some, None}
+use Rattle.rows.specs.declared.FieldNumber.{FieldNumber}
 use Rattle.rows.specs.declared.PageRow.{PageRow}
 use Rattle.tree.specs.Bytes.{spelled}
 use Rattle.tree.specs.Shape.{Means, none, more}
@@ -208,13 +208,13 @@ ordered_reads s small file bits n rows =
 
 -- the totals
 
-agreed_good : {A : Type 0} (t : Totals) (x : Step A) → totals_number t ≡ 0 → agreed t x ≡ x
-agreed_good Agree x z = refl
-agreed_good (Differ f) x z = absurd (omega (arith, z))
+agreed_good : {A : Type 0} (t : Option FieldNumber) (x : Step A) → totals_number t ≡ 0 → agreed t x ≡ x
+agreed_good None x z = refl
+agreed_good (Some f) x z = absurd (omega (arith, z))
 
-agreed_bad : {A : Type 0} (t : Totals) (x : Step A) → (totals_number t ≡ 0 → ⊥) → RefusedBy (agreed t x) (totals_number t)
-agreed_bad Agree x bad = absurd (bad refl)
-agreed_bad (Differ f) x bad = record { by = total_fault f.0; is = refl; number = refl }
+agreed_bad : {A : Type 0} (t : Option FieldNumber) (x : Step A) → (totals_number t ≡ 0 → ⊥) → RefusedBy (agreed t x) (totals_number t)
+agreed_bad None x bad = absurd (bad refl)
+agreed_bad (Some f) x bad = record { by = total_fault f.0; is = refl; number = refl }
 
 module _ (h : Header) (entries file : ℕ) (rows : List PageWords) where
   abbrev n : ℕ
@@ -223,7 +223,7 @@ module _ (h : Header) (entries file : ℕ) (rows : List PageWords) where
   abbrev inside : Piece
   inside = counting_all n (length rows) (page_list_payload_piece file (bits_of h.lists.columns) (by_column 0 n rows))
 
-  abbrev total : Totals
+  abbrev total : Option FieldNumber
   total = totals_of entries h.lists (pages_say n rows)
 
   abbrev whole : Bool → Piece

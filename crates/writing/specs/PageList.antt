@@ -6,8 +6,8 @@ use Rattle.locator.specs.Locator.{stored_as, in_file}
 use Rattle.header.specs.Header.{Header}
 use Rattle.pages.specs.Pages.{running_total}
 use Rattle.column_pages.specs.ColumnPages.{bits_of, per_column}
-use Rattle.totals.specs.declared.Totals.{Totals}
-use Rattle.totals.specs.declared.Totals.TheVariants.{Agree, Differ}
+use Rattle.std.specs.Prelude.{Option, Some, None}
+use Rattle.rows.specs.declared.FieldNumber.{FieldNumber}
 use Rattle.page_list.specs.PageList.{totals_of}
 use Rattle.rows.specs.declared.PageRow.{PageRow}
 use Rattle.tree.specs.Bytes.{spelled}
@@ -73,9 +73,9 @@ counting_all columns rows x =
     record { bytes = x.bytes; long = 8 + 8 * columns + 16 * rows; fits = x.fits; number = x.number; places = x.places }
 
 -- a verdict on the totals
-abbrev pub totals_number : Totals → ℕ
-totals_number Agree = 0
-totals_number (Differ f) = 19
+abbrev pub totals_number : Option FieldNumber → ℕ
+totals_number None = 0
+totals_number (Some f) = 19
 
 -- the page list of a table beside a header, for a cluster of so many entries: version 1, minimum 1
 unfoldable pub page_list_piece : Header → ℕ → ℕ → List PageWords → Piece

@@ -1,10 +1,8 @@
-use Prim.Native.Nat.{◌-◌}
 use mathlib.Core.Path.{sym, ◌∙◌}
 use native.Mathlib.Omega.{arith}
-use borrow.Author.Rules.{rules}
 use Rattle.rows.specs.Words.{most_fields}
 use Rattle.chain_moves.proofs.MovesLaws.{sum_le}
-use Rattle.chain_moves.proofs.Summing.{Summing, sum_starts, sum_goes, sum_never, sum_ends}
+use Rattle.chain_moves.proofs.Summing.{sum_starts, sum_goes, sum_never, sum_ends}
 use Rattle.chain_moves.proofs.sum_of_moves.Goals as goal
 
 pub loop-f-init : goal.loop-f-init
@@ -21,11 +19,11 @@ overflow_add-total c = let s = c.args in
     omega arith
 
 pub loop-f-preserved : goal.loop-f-preserved
-loop-f-preserved c = let e = sym c.in-Away.is ∙ c.climb.ensures.value in
+loop-f-preserved c = let e = sym c.in-Some.is ∙ c.climb.ensures.value in
     sum_goes _ _ c.requires.inside _ _ _ _ _ c.loop-f.invariant c.loop-f-test.true _ e _ _ c.climb.ensures.followed_2
 
-pub returns-in-Never : goal.returns-in-Never
-returns-in-Never c = sum_never _ _ c.requires.inside _ _ _ _ _ c.loop-f.invariant c.loop-f-test.true (sym c.in-Never.is ∙ c.climb.ensures.value)
+pub returns-in_default : goal.returns-in_default
+returns-in_default c = sum_never _ _ c.requires.inside _ _ _ _ _ c.loop-f.invariant c.loop-f-test.true (sym c.in_default.is ∙ c.climb.ensures.value)
 
 pub returns : goal.returns
 returns c = sum_ends _ _ c.requires.inside _ _ _ _ _ c.loop-f.invariant (omega arith)

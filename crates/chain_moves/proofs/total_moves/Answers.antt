@@ -1,7 +1,6 @@
 use mathlib.Core.Path.{sym, ◌∙◌}
 use Rattle.chain_moves.specs.Moves.{moves_of}
 use Rattle.parents.proofs.InsideLaws.{inside_few, inside_is}
-use borrow.Author.Rules.{rules}
 use Rattle.chain_moves.proofs.total_moves.Goals as goal
 
 pub sum_of_moves-requires : goal.sum_of_moves-requires

@@ -1,10 +1,6 @@
 -- `column_decoding::decode_column` meets its contract, page by page. Assumes nothing.
-use Prim.Native.Nat.{◌-◌}
 use Rattle.column_decoding.proofs.Turns.{Reached}
 use Rattle.column_decoding.proofs.decode_column.Given as goal
 
 abbrev pub invariant-loop-i : goal.invariant-loop-i
 invariant-loop-i l = Reached l.column_type l.file l.pages l.initial.out l.i l.start l.out
-
-abbrev pub decreases-loop-i : goal.decreases-loop-i
-decreases-loop-i l = l.count - l.i

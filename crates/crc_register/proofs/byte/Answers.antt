@@ -1,22 +1,21 @@
-use mathlib.Core.Path.{◌≡◌, refl, sym, ap, ◌∙◌}
-use Prim.Native.Nat.{ℕ, suc, ◌+◌, ◌-◌, ◌≤◌}
+use mathlib.Core.Path.{◌≡◌, refl}
+use Prim.Native.Nat.{suc, ◌+◌, ◌-◌}
 use native.Mathlib.Omega.{arith}
-use borrow.Author.Rules.{rules}
 use Rattle.crc_register.specs.Register.{bits, byte}
 use Rattle.crc_register.proofs.byte.Goals as goal
 
-pub loop-k-init : goal.loop-k-init
+pub loop-init : goal.loop-init
 unfolding byte
-loop-k-init c = (omega arith, refl)
+loop-init c = refl
 
-pub loop-k-preserved : goal.loop-k-preserved
+pub loop-preserved : goal.loop-preserved
 unfolding bits
-loop-k-preserved c = let l = c.loop-k in
-    let e : 8 - l.k ≡ suc (8 - (l.k + 1)) = omega (arith, c.loop-k-test.true) in
-    (omega (arith, c.loop-k-test.true), ap (bits (8 - (l.k + 1))) c.shifted-x.ensures ∙ sym (ap (λ (n : ℕ). bits n l.x) e) ∙ l.invariant.1)
+loop-preserved c = let l = c.loop in
+    let e : 8 - l.counter ≡ suc (8 - (l.counter + 1)) = omega arith in
+    rw c.shifted-x.ensures (rw e at l.invariant)
 
 pub returns : goal.returns
 unfolding bits
-returns c = let l = c.loop-k in
-    let z : 8 - l.k ≡ 0 = omega (arith, c.loop-k-test.false) in
-    sym (ap (λ (n : ℕ). bits n l.x) z) ∙ l.invariant.1
+returns c = let l = c.loop in
+    let z : 8 - l.counter ≡ 0 = omega arith in
+    rw z at l.invariant

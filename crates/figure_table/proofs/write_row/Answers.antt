@@ -1,6 +1,5 @@
 -- `figure_table::write_row` meets its contract. Assumes nothing.
 use native.Mathlib.Omega.{arith}
-use borrow.Author.Rules.{rules}
 use Rattle.figure_table.proofs.RowLaws.{row_prints}
 use Rattle.figure_table.proofs.write_row.Goals as goal
 

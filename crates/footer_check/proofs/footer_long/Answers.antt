@@ -1,5 +1,4 @@
 use Rattle.footer_check.proofs.Whole.{footer_counted}
-use borrow.Author.Rules.{rules}
 use Rattle.footer_check.proofs.footer_long.Goals as goal
 
 pub returns : goal.returns

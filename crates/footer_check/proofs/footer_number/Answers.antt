@@ -1,5 +1,4 @@
 use Rattle.footer_check.proofs.Whole.{number_mixed, number_long, number_short}
-use borrow.Author.Rules.{rules}
 use Rattle.footer_check.proofs.footer_number.Goals as goal
 
 pub returns-then-footer_long-le-CEILING : goal.returns-then-footer_long-le-CEILING

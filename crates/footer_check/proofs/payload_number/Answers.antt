@@ -7,7 +7,6 @@ use Rattle.rows.proofs.FirstRows.{rows_length}
 use Rattle.writing.specs.Piece.{pieces}
 use Rattle.writing.specs.Footer.{footer_payload_piece}
 use Rattle.writing.proofs.Items.{first_alone}
-use borrow.Author.Rules.{rules}
 use Rattle.footer_check.proofs.payload_number.Goals as goal
 
 pub returns : goal.returns

@@ -2,7 +2,6 @@ use Rattle.writing.specs.Rows.{footer_rows}
 use Rattle.writing.specs.Footer.{footer_piece}
 use Rattle.stores.proofs.Answers.{refused_answer}
 use Rattle.footer_writer.proofs.Whole.{footer_roomless, footer_written}
-use borrow.Author.Rules.{rules}
 use Rattle.footer_writer.proofs.write_beside.Goals as goal
 
 pub returns-then-number-ne0 : goal.returns-then-number-ne0

@@ -1,5 +1,4 @@
 use Rattle.header_check.proofs.Whole.{header_long_is}
-use borrow.Author.Rules.{rules}
 use Rattle.header_check.proofs.header_long.Goals as goal
 
 pub returns : goal.returns

@@ -1,7 +1,6 @@
 use mathlib.Core.Path.{sym, ◌∙◌}
 use Rattle.writing.proofs.Items.{first_nonzero}
 use Rattle.header_check.proofs.Parents.{payload_parented}
-use borrow.Author.Rules.{rules}
 use Rattle.header_check.proofs.header_number.Goals as goal
 
 pub returns-then-number-ne0 : goal.returns-then-number-ne0

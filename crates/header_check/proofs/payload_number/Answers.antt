@@ -1,5 +1,4 @@
 use Rattle.header_check.proofs.Whole.{payload_number}
-use borrow.Author.Rules.{rules}
 use Rattle.header_check.proofs.payload_number.Goals as goal
 
 pub returns : goal.returns

@@ -5,29 +5,26 @@ use Rattle.frames.specs.Frames.{record_of}
 use Rattle.frames.proofs.Loops.{Reached, reached_none, reached_more, reached_refused, reached_counted}
 use Rattle.rows.specs.Words.{alias_width, alias_words}
 use Rattle.records.specs.Records.{alias}
-use Rattle.column_records.specs.Answers.{alias_step}
 use Rattle.header_lists.proofs.LaidLaws.{Laid, laid_none, laid_more}
 use Rattle.header_lists.proofs.KeptLaws.{kept_rows, kept_refused}
 use borrow.Author.Rules.{rules}
 use Rattle.header_lists.proofs.scan_aliases.Goals as goal
+use Rattle.wire.specs.Answers.{as_step}
 
 pub loop-i-init : goal.loop-i-init
 unfolding reached_none
 loop-i-init c = (reached_none, laid_none)
 
-pub overflow_add-i : goal.overflow_add-i
-overflow_add-i c = omega (arith, c.well_formed)
-
 pub loop-i-preserved : goal.loop-i-preserved
 unfolding reached_more
 loop-i-preserved c = let m = c.loop-i.invariant in
-    (reached_more m.0 c.loop-i-test.true (sym c.alias_record.ensures ∙ ap alias_step c.in-Found.is), laid_more c.in-Found.row m.1 m.0.count c.put_alias.ensures c.put_alias.auto.table)
+    (reached_more m.0 c.loop-i-test.true (sym c.alias_record.ensures ∙ ap as_step c.in-Ok.is), laid_more c.in-Ok.row m.1 m.0.count c.put_alias.ensures c.put_alias.auto.table)
 
-pub shape_of-rows-in-Refused : goal.shape_of-rows-in-Refused
-shape_of-rows-in-Refused c = c.loop-i.invariant.1.long
+pub shape_of-rows-in-Err : goal.shape_of-rows-in-Err
+shape_of-rows-in-Err c = c.loop-i.invariant.1.long
 
-pub returns-in-Refused : goal.returns-in-Refused
-returns-in-Refused c = let e = reached_refused c.loop-i.invariant.0 c.loop-i-test.true (sym c.alias_record.ensures ∙ ap alias_step c.in-Refused.is) in
+pub returns-in-Err : goal.returns-in-Err
+returns-in-Err c = let e = reached_refused c.loop-i.invariant.0 c.loop-i-test.true (sym c.alias_record.ensures ∙ ap as_step c.in-Err.is) in
     record { result_value = rw (e, c.fault_in_item.ensures); kept = kept_refused e }
 
 pub shape_of-rows : goal.shape_of-rows

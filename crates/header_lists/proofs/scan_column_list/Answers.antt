@@ -1,9 +1,10 @@
+use Rattle.wire.proofs.Laws.{passed_on}
 use mathlib.Core.Path.{sym, ap, ◌∙◌}
 use Rattle.wire.specs.Reading.{counted}
-use Rattle.wire.specs.Answers.{number_step}
-use Rattle.wire.specs.declared.NumberStep.{NumberStep}
+use Rattle.wire.specs.Answers.{as_step}
+use Rattle.std.specs.Prelude.{ℕ, Result}
+use Rattle.wire.specs.declared.Fault.{Fault}
 use Rattle.frames.specs.Frames.{record_of, at_most}
-use Rattle.frames.specs.Answers.{list_step}
 use Rattle.rows.specs.Words.{most_columns}
 use Rattle.records.specs.Records.{column}
 use Rattle.header_lists.specs.Next.{columns_next}
@@ -14,20 +15,20 @@ use Rattle.header_lists.proofs.scan_column_list.Goals as goal
 pub shape_of-rows : goal.shape_of-rows
 shape_of-rows c = c.scan_columns-scanned.auto.rows
 
-pub returns-in-Found-list_head_at_most : goal.returns-in-Found-list_head_at_most
-returns-in-Found-list_head_at_most c = let a = c.args in
-    let n = c.in-Found.n in
-    let is = ap (λ (x : NumberStep). columns_next a.strict a.s.now (number_step x)) c.in-Found.is in
-    let head = sym c.list_head_at_most.ensures ∙ ap list_step c.in-Found-list_head_at_most.is in
+pub returns : goal.returns
+returns c = let a = c.args in
+    let n = c.in_ok-n.n in
+    let is = ap (λ (x : Result (ℕ × ℕ) Fault). columns_next a.strict a.s.now (as_step x)) c.in_ok-n.was in
+    let head = sym c.list_head_at_most.ensures ∙ ap as_step c.in_ok-head.was in
     let k = c.scan_columns-scanned.ensures in record { result_value = counted_list a.strict (at_most most_columns) (λ _ _. record_of a.strict (column n)) a.s.now _ is head c.up_to.ensures k.result_value c.close_list.ensures; kept = kept_list a.strict (at_most most_columns) (λ _ _. record_of a.strict (column n)) a.s.now _ is head c.up_to.ensures k.kept }
 
-pub returns-in-Refused-list_head_at_most : goal.returns-in-Refused-list_head_at_most
-returns-in-Refused-list_head_at_most c = let a = c.args in
-    let is = ap (λ (x : NumberStep). columns_next a.strict a.s.now (number_step x)) c.in-Found.is in
-    let e = head_refused a.strict (at_most most_columns) (λ _ _. record_of a.strict (column c.in-Found.n)) a.s.now _ is (sym c.list_head_at_most.ensures ∙ ap list_step c.in-Refused-list_head_at_most.is) in
-    record { result_value = sym (ap counted e); kept = kept_refused e }
+pub returns-in_err-head : goal.returns-in_err-head
+returns-in_err-head c = let a = c.args in
+    let is = ap (λ (x : Result (ℕ × ℕ) Fault). columns_next a.strict a.s.now (as_step x)) c.in_ok-n.was in
+    let e = head_refused a.strict (at_most most_columns) (λ _ _. record_of a.strict (column c.in_ok-n.n)) a.s.now _ is (sym c.list_head_at_most.ensures ∙ ap as_step c.in_err-head.was) in
+    record { result_value = passed_on c.from_residual-in_err-head.result _ c.from_residual-in_err-head.ensures.1 ∙ sym (ap counted e); kept = kept_refused e }
 
-pub returns-in-Refused : goal.returns-in-Refused
-returns-in-Refused c = let a = c.args in
-    let e = ap (λ (x : NumberStep). columns_next a.strict a.s.now (number_step x)) c.in-Refused.is in
-    record { result_value = sym (ap counted e); kept = kept_refused e }
+pub returns-in_err-n : goal.returns-in_err-n
+returns-in_err-n c = let a = c.args in
+    let e = ap (λ (x : Result (ℕ × ℕ) Fault). columns_next a.strict a.s.now (as_step x)) c.in_err-n.was in
+    record { result_value = passed_on c.from_residual.result _ c.from_residual.ensures.1 ∙ sym (ap counted e); kept = kept_refused e }

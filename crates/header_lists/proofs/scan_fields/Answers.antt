@@ -9,11 +9,11 @@ use Rattle.rows.specs.Words.{field_width, field_words}
 use Rattle.rows.specs.declared.FieldRow.{FieldRow}
 use Rattle.records.specs.Records.{field}
 use Rattle.records.proofs.Bounds.{field_parent}
-use Rattle.field_records.specs.Answers.{field_step}
 use Rattle.header_lists.proofs.LaidLaws.{Laid, laid_none, laid_more}
 use Rattle.header_lists.proofs.KeptLaws.{kept_word, kept_rows, kept_refused}
 use borrow.Author.Rules.{rules}
 use Rattle.header_lists.proofs.scan_fields.Goals as goal
+use Rattle.wire.specs.Answers.{as_step}
 
 pub loop-i-init : goal.loop-i-init
 unfolding reached_none
@@ -23,7 +23,7 @@ pub overflow_cast-parents : goal.overflow_cast-parents
 overflow_cast-parents c = let a = c.args in
     let n = a.head.count in
     let few = c.requires.0 in
-    let under = record_found (λ (r : FieldRow). r.head.parent.0 < n) a.strict (field n) a.s.now _ (λ stop from q. field_parent n _ from) (sym c.field_record.ensures ∙ ap field_step c.in-Found.is) in
+    let under = record_found (λ (r : FieldRow). r.head.parent.0 < n) a.strict (field n) a.s.now _ (λ stop from q. field_parent n _ from) (sym c.field_record.ensures ∙ ap as_step c.in-Ok.is) in
     omega arith
 
 pub offset_bounds-parents-i : goal.offset_bounds-parents-i
@@ -38,31 +38,28 @@ offset_bounds-flags-i c = omega (arith, c.well_formed)
 pub bounds-flags-i : goal.bounds-flags-i
 bounds-flags-i c = omega (arith, c.requires)
 
-pub overflow_add-i : goal.overflow_add-i
-overflow_add-i c = omega (arith, c.well_formed)
-
 pub loop-i-preserved : goal.loop-i-preserved
 unfolding reached_more
 loop-i-preserved c = let l = c.loop-i in
     let m = l.invariant in
-    let x = c.in-Found.row in (
-      reached_more m.0 c.loop-i-test.true (sym c.field_record.ensures ∙ ap field_step c.in-Found.is),
+    let x = c.in-Ok.row in (
+      reached_more m.0 c.loop-i-test.true (sym c.field_record.ensures ∙ ap as_step c.in-Ok.is),
       holds_set x (λ _ _. refl) refl m.1 m.0.count (omega (arith, c.requires)),
       holds_set x (λ _ _. refl) refl m.2 m.0.count (omega (arith, c.requires)),
       laid_more x m.3 m.0.count c.put_field.ensures c.put_field.auto.table,
     )
 
-pub shape_of-parents-in-Refused : goal.shape_of-parents-in-Refused
-shape_of-parents-in-Refused c = c.loop-i.invariant.1.long
+pub shape_of-parents-in-Err : goal.shape_of-parents-in-Err
+shape_of-parents-in-Err c = c.loop-i.invariant.1.long
 
-pub shape_of-flags-in-Refused : goal.shape_of-flags-in-Refused
-shape_of-flags-in-Refused c = c.loop-i.invariant.2.long
+pub shape_of-flags-in-Err : goal.shape_of-flags-in-Err
+shape_of-flags-in-Err c = c.loop-i.invariant.2.long
 
-pub shape_of-rows-in-Refused : goal.shape_of-rows-in-Refused
-shape_of-rows-in-Refused c = c.loop-i.invariant.3.long
+pub shape_of-rows-in-Err : goal.shape_of-rows-in-Err
+shape_of-rows-in-Err c = c.loop-i.invariant.3.long
 
-pub returns-in-Refused : goal.returns-in-Refused
-returns-in-Refused c = let e = reached_refused c.loop-i.invariant.0 c.loop-i-test.true (sym c.field_record.ensures ∙ ap field_step c.in-Refused.is) in
+pub returns-in-Err : goal.returns-in-Err
+returns-in-Err c = let e = reached_refused c.loop-i.invariant.0 c.loop-i-test.true (sym c.field_record.ensures ∙ ap as_step c.in-Err.is) in
     record { result_value = rw (e, c.fault_in_item.ensures); kept = kept_refused e; kept_2 = kept_refused e; kept_3 = kept_refused e }
 
 pub shape_of-parents : goal.shape_of-parents

@@ -9,7 +9,6 @@ use Rattle.rows.specs.Words.{field_width, field_words}
 use Rattle.rows.specs.declared.FieldRow.{FieldRow}
 use Rattle.records.specs.Records.{field}
 use Rattle.records.proofs.Bounds.{field_parent}
-use Rattle.field_records.specs.Answers.{field_step}
 use Rattle.header_lists.proofs.LaidLaws.{Laid, laid_none, laid_more}
 use Rattle.header_lists.proofs.KeptLaws.{kept_word, kept_rows, kept_refused}
 use borrow.Author.Rules.{rules}
@@ -20,6 +19,3 @@ invariant-loop-i l = (m : Reached l.list (λ _. record_of l.strict (field l.coun
     × Holds (λ _ (r : FieldRow). r.head.parent.0 ∷ []) m.done l.initial.parents l.parents
     × Holds (λ _ (r : FieldRow). r.head.flags ∷ []) m.done l.initial.flags l.flags
     × Laid field_width (field_words 0) m.done l.initial.rows l.rows
-
-abbrev pub decreases-loop-i : goal.decreases-loop-i
-decreases-loop-i l = l.count - l.i

@@ -1,7 +1,6 @@
 use mathlib.Core.Bool.{Bool}
 use mathlib.Core.Path.{sym, ap, ◌∙◌}
 use Rattle.wire.specs.Reading.{unless}
-use borrow.Author.Rules.{rules}
 use Rattle.page_list_check.proofs.order_first.Goals as goal
 
 pub returns-then-in_order : goal.returns-then-in_order

@@ -1,6 +1,5 @@
 use Prim.Native.Nat.{◌*◌}
 use Rattle.verdicts.proofs.Capped.{grown_twice}
-use borrow.Author.Rules.{rules}
 use Rattle.page_list_check.proofs.page_list_long.Goals as goal
 
 pub returns : goal.returns

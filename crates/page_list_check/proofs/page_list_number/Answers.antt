@@ -1,7 +1,6 @@
 use lib.Seq.{length-take-le}
 use mathlib.Core.Path.{sym, ◌∙◌}
 use Rattle.page_list_check.proofs.WholeLaws.{count_fits, order_before, out_of_order, too_many_columns, column_refused, columns_inside, totals_last}
-use borrow.Author.Rules.{rules}
 use Rattle.page_list_check.proofs.page_list_number.Goals as goal
 
 pub returns-then-count-ne0 : goal.returns-then-count-ne0

@@ -1,10 +1,9 @@
 use mathlib.Core.Path.{sym, ap, ◌∙◌}
 use Rattle.writing.specs.PageList.{totals_number}
-use borrow.Author.Rules.{rules}
 use Rattle.page_list_check.proofs.totals_number.Goals as goal
 
-pub returns-in-Agree : goal.returns-in-Agree
-returns-in-Agree c = ap totals_number (sym c.in-Agree.is ∙ c.totals_of.ensures)
+pub returns-in-None : goal.returns-in-None
+returns-in-None c = ap totals_number (sym c.in-None.is ∙ c.totals_of.ensures)
 
-pub returns-in-Differ : goal.returns-in-Differ
-returns-in-Differ c = ap totals_number (sym c.in-Differ.is ∙ c.totals_of.ensures)
+pub returns-in-Some : goal.returns-in-Some
+returns-in-Some c = ap totals_number (sym c.in-Some.is ∙ c.totals_of.ensures)

@@ -2,10 +2,8 @@ use Prim.Native.Nat.{◌/◌, ◌≤◌}
 use mathlib.Core.Path.{sym, ap, ◌∙◌}
 use native.Mathlib.Omega.{arith}
 use lib.ListN.{length}
-use borrow.Author.Tests.{not-true, not-false}
 use Rattle.figure_rules.specs.Report.{Report, figure_width}
 use Rattle.figure_rules.proofs.Tests.{placed_short, placed_past, placed_added}
-use borrow.Author.Rules.{rules}
 use Rattle.page_list_report.proofs.place.Goals as goal
 
 pub returns-then-report-columns : goal.returns-then-report-columns

@@ -2,11 +2,10 @@ use Prim.Native.Nat.{◌+◌}
 use mathlib.Core.Path.{sym, ap, ◌∙◌}
 use native.Mathlib.Omega.{arith}
 use lib.Seq.{length-take-le}
-use borrow.Author.Tests.{not-true, not-false, ltb-true, ltb-false}
+use borrow.Author.Tests.{ltb-true, ltb-false}
 use Rattle.figure_rules.specs.Report.{Report, outcome_of, most_lists}
 use Rattle.figure_rules.proofs.Tests.{reported_late}
 use Rattle.page_list_report.proofs.ReportLaws.{its_figures, reported_placed, reported_refused}
-use borrow.Author.Rules.{rules}
 use Rattle.page_list_report.proofs.report_page_list.Goals as goal
 
 pub returns-then-not-takes_more : goal.returns-then-not-takes_more

@@ -3,7 +3,6 @@ use mathlib.Core.Path.{sym}
 use native.Mathlib.Omega.{arith}
 use borrow.Author.Tests.{le-ltb}
 use Rattle.page_list_report.proofs.ReportLaws.{below_rest}
-use borrow.Author.Rules.{rules}
 use Rattle.page_list_report.proofs.takes_more.Goals as goal
 
 pub returns-then-counts-lt-MOST_LISTS : goal.returns-then-counts-lt-MOST_LISTS

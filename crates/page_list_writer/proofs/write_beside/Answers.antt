@@ -1,5 +1,4 @@
 use Rattle.page_list_writer.proofs.Whole.{list_long, list_refused_lem, list_roomless, list_written}
-use borrow.Author.Rules.{rules}
 use Rattle.page_list_writer.proofs.write_beside.Goals as goal
 
 pub returns-then-long-gt-CEILING : goal.returns-then-long-gt-CEILING

@@ -4,14 +4,14 @@ use Rattle.pairing.proofs.PairedLaws.{stale_first, stale_then}
 use borrow.Author.Rules.{rules}
 use Rattle.pairing.proofs.refuse_stale.Goals as goal
 
-pub returns-in-Accepted : goal.returns-in-Accepted
-returns-in-Accepted c = λ table.
+pub returns-in-Ok : goal.returns-in-Ok
+returns-in-Ok c = λ table.
     let a = c.args in
-    let w = header_accepted a.header.now c.read_schema-schema.ensures c.in-Accepted.is in
+    let w = header_accepted a.header.now c.read_schema-schema.ensures c.in-Ok.is in
     rw c.stale_number.ensures (beside_refused table (stale_then a.header.now a.page_list.now w.2))
 
-pub returns-in-Refused : goal.returns-in-Refused
-returns-in-Refused c = λ table.
+pub returns-in-Err : goal.returns-in-Err
+returns-in-Err c = λ table.
     let a = c.args in
-    let w = header_refuses a.header.now c.read_schema-schema.ensures c.in-Refused.is in
+    let w = header_refuses a.header.now c.read_schema-schema.ensures c.in-Err.is in
     beside_refused table (stale_first a.header.now a.page_list.now w)

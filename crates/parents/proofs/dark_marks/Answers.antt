@@ -3,7 +3,6 @@ use Rattle.rows.specs.Words.{most_fields}
 use Rattle.parents.specs.Dark.{dark_mark}
 use Rattle.parents.proofs.InsideLaws.{inside_few, inside_is}
 use Rattle.parents.proofs.Darkening.{none_marked}
-use borrow.Author.Rules.{rules}
 use Rattle.parents.proofs.dark_marks.Goals as goal
 
 pub marks_of-requires : goal.marks_of-requires

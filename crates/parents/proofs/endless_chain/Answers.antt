@@ -1,7 +1,6 @@
 use mathlib.Core.Path.{sym, ◌∙◌}
 use Rattle.parents.specs.Parents.{chains_of}
 use Rattle.parents.proofs.InsideLaws.{inside_few, inside_is}
-use borrow.Author.Rules.{rules}
 use Rattle.parents.proofs.endless_chain.Goals as goal
 
 pub lowest_endless-requires : goal.lowest_endless-requires

@@ -1,5 +1,4 @@
 -- `planes::place_plane` meets its contract. Assumes nothing.
--- `planes::place_plane` meets its contract. Assumes nothing.
 use mathlib.Core.Path.{◌≡◌, sym, ◌∙◌}
 use mathlib.Core.List.{List}
 use Prim.Native.Nat.{ℕ, ◌<◌}
@@ -9,7 +8,6 @@ use lib.Seq.{length-take-le}
 use Rattle.planes.specs.Plane.{with_byte}
 use Rattle.planes.proofs.Joined.{joined_none, joined_cut}
 use Rattle.planes.proofs.Words.{with_byte_missing}
-use borrow.Author.Rules.{rules}
 use Rattle.planes.proofs.place_plane.Goals as goal
 
 -- a plane that is cut to as many bytes as there are words

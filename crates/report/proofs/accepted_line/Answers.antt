@@ -2,7 +2,6 @@ use native.Mathlib.Omega.{arith}
 use Rattle.decimals.specs.Decimal.{text, decimal}
 use Rattle.report.specs.Line.{accepted_line}
 use Rattle.report.proofs.LineLaws.{says_nothing, says_more}
-use borrow.Author.Rules.{rules}
 use Rattle.report.proofs.accepted_line.Goals as goal
 
 pub returns : goal.returns

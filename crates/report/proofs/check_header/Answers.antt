@@ -4,7 +4,6 @@ use Rattle.report.specs.Line.{header_line, longer_line}
 use Rattle.report.specs.Program.{most_bytes, printed}
 use Rattle.report.proofs.LineLaws.{line_counts}
 use Rattle.report.proofs.RoomLaws.{header_printed}
-use borrow.Author.Rules.{rules}
 use Rattle.report.proofs.check_header.Goals as goal
 
 pub returns-then-input-gt-MOST_BYTES : goal.returns-then-input-gt-MOST_BYTES

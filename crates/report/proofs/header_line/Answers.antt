@@ -1,4 +1,3 @@
-use borrow.Author.Rules.{rules}
 use Rattle.report.proofs.header_line.Goals as goal
 
 pub returns-in-Accepted : goal.returns-in-Accepted

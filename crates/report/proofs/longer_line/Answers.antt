@@ -2,7 +2,6 @@ use native.Mathlib.Omega.{arith}
 use Rattle.decimals.specs.Decimal.{text}
 use Rattle.report.specs.Line.{longer_line}
 use Rattle.report.proofs.LineLaws.{says_nothing, says_more}
-use borrow.Author.Rules.{rules}
 use Rattle.report.proofs.longer_line.Goals as goal
 
 pub returns : goal.returns

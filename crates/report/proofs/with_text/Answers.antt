@@ -1,11 +1,10 @@
-use Prim.Native.Nat.{◌+◌, ◌-◌, ◌≤◌, zero-le}
-use mathlib.Core.Path.{◌≡◌}
-use native.Mathlib.Numerals.{add-one}
+use Prim.Native.Nat.{◌+◌, ◌-◌}
+use mathlib.Core.Path.{refl}
 use native.Mathlib.Omega.{arith}
 use borrow.Author.Tests.{le-leb, lt-leb}
 use lib.ListN.{length}
-use lib.Seq.{paste, paste-zero, paste-suc, take-length}
-use borrow.Author.Rules.{rules}
+use lib.Seq.{take-length}
+use Rattle.std.proofs.lemmas.Slice.{put_mid-paste}
 use Rattle.report.specs.Line.{added}
 use Rattle.report.proofs.with_text.Goals as goal
 
@@ -19,16 +18,11 @@ unfolding added
 returns-then-start-text c = let a = c.args in
     simp (lt-leb (a.line.len + length a.text.now) 128 (omega arith))
 
-pub loop-i-init : goal.loop-i-init
-loop-i-init c = (zero-le, paste-zero c.args.line.bytes c.args.line.len c.args.text.now, search rules, omega arith)
-
-pub loop-i-preserved : goal.loop-i-preserved
-loop-i-preserved c = let s = c.args in
-    let l = c.loop-i in
-    (omega arith, rw (l.invariant.1, add-one) (paste-suc _ s.line.len _ l.i 0 (omega arith) c.loop-i-test.true), l.invariant.2, omega arith)
-
 pub returns : goal.returns
 unfolding added
-returns c = let s = c.args in
-    let e : c.loop-i.i ≡ length s.text.now = omega arith in
-    rw (c.loop-i.invariant.1, e, take-length) (simp (le-leb _ _ c.loop-i.invariant.3))
+returns c =
+    let line = c.args.line in
+    let text = c.args.text.now in
+    let n = length text in
+    let written = put_mid-paste line.len (line.len + n - line.len) line.bytes c.copy_from_slice.new.self text n c.copy_from_slice.ensures.after (omega arith) refl in
+    rw (written, take-length) (simp (le-leb (line.len + n) 128 (omega arith)))

@@ -10,6 +10,3 @@ use Rattle.rows.proofs.put_words.Given as goal
 
 abbrev pub invariant-loop-i : goal.invariant-loop-i
 invariant-loop-i l = (l.i ≤ length l.words) × (l.table ≡ paste l.initial.table l.at l.words l.i) × (length l.table ≡ length l.initial.table) × (l.at + length l.words ≤ length l.initial.table)
-
-abbrev pub decreases-loop-i : goal.decreases-loop-i
-decreases-loop-i l = length l.words - l.i

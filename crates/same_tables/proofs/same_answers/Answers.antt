@@ -1,5 +1,4 @@
 -- `same_answers` meets its contract: each arm is given which answers they are.
-use borrow.Author.Rules.{rules}
 use Rattle.same_tables.proofs.same_answers.Goals as goal
 
 pub returns-in-Accepted-y : goal.returns-in-Accepted-y

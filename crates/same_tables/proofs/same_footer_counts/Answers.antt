@@ -1,6 +1,5 @@
 -- `same_footer_counts` meets its contract: each arm is given which answers they are.
 use borrow.Author.Tests.{eq-eqb, ne_eqb}
-use borrow.Author.Rules.{rules}
 use Rattle.same_tables.proofs.same_footer_counts.Goals as goal
 
 pub returns-then-c-d : goal.returns-then-c-d

@@ -1,5 +1,4 @@
 -- `same_footers` meets its contract: clusters, links, then the counts.
-use borrow.Author.Rules.{rules}
 use Rattle.same_tables.proofs.same_footers.Goals as goal
 
 pub returns-then-same_words-2 : goal.returns-then-same_words-2

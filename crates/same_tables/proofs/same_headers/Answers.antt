@@ -1,5 +1,4 @@
 -- `same_headers` meets its contract: columns, aliases, then the answers.
-use borrow.Author.Rules.{rules}
 use Rattle.same_tables.proofs.same_headers.Goals as goal
 
 pub returns-then-same_words-2 : goal.returns-then-same_words-2

@@ -1,5 +1,4 @@
 -- `same_page_lists` meets its contract: the pages, then their count.
-use borrow.Author.Rules.{rules}
 use Rattle.same_tables.proofs.same_page_lists.Goals as goal
 
 pub returns-then-same_words : goal.returns-then-same_words

@@ -1,7 +1,6 @@
 -- `same_read` meets its contract: the counts, then the strings, then the fields.
 use borrow.Author.Tests.{eq-eqb, ne_eqb}
 use Rattle.same_tables.specs.Same.{same_read}
-use borrow.Author.Rules.{rules}
 use Rattle.same_tables.proofs.same_read.Goals as goal
 
 pub returns-then-t-u : goal.returns-then-t-u

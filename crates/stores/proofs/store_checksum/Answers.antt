@@ -5,7 +5,6 @@ use native.Mathlib.Omega.{arith}
 use lib.Seq.{length-take-le, sets}
 use Rattle.tree.specs.Bytes.{spelled}
 use Rattle.tree.proofs.Place.{length_spelled}
-use borrow.Author.Rules.{rules}
 use Rattle.stores.proofs.store_checksum.Goals as goal
 
 pub slice_bounds-crc32-end-then-end-out : goal.slice_bounds-crc32-end-then-end-out

@@ -4,7 +4,6 @@ use mathlib.Core.Path.{ap}
 use mathlib.Core.List.{◌++◌}
 use Rattle.tree.specs.Bytes.{spelled}
 use Rattle.stores.proofs.Storing.{stored_then, stored_as_lem}
-use borrow.Author.Rules.{rules}
 use Rattle.stores.proofs.store_list_head.Goals as goal
 
 pub returns : goal.returns

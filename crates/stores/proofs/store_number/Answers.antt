@@ -1,7 +1,6 @@
 use mathlib.Core.Path.{sym, ◌∙◌}
-use Prim.Native.Nat.{◌-◌}
 use native.Mathlib.Omega.{arith}
-use Rattle.coding.proofs.PutLoop.{Left, left_all, left_next, left_none}
+use Rattle.coding.proofs.PutLoop.{left_all, left_next, left_none}
 use Rattle.tree.proofs.Place.{length_spelled}
 use Rattle.stores.proofs.Storing.{puts_sets, stored_all, stored_nothing}
 use Rattle.stores.proofs.store_number.Goals as goal

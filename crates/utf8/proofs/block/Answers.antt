@@ -2,7 +2,6 @@ use Prim.Native.Nat.{◌+◌, ◌-◌}
 use mathlib.Core.Path.{◌≡◌, sym, ◌∙◌}
 use native.Mathlib.Omega.{arith}
 use Rattle.utf8.proofs.Reading.{read_ascii}
-use borrow.Author.Rules.{rules}
 use Rattle.utf8.proofs.block.Goals as goal
 
 pub returns-then-is_ascii : goal.returns-then-is_ascii

@@ -1,11 +1,7 @@
-use Prim.Native.Nat.{◌+◌, ◌-◌, ◌≤◌}
-use native.Mathlib.Omega.{arith}
-use borrow.Author.Rules.{rules}
+use Prim.Native.Nat.{◌-◌}
 use lib.ListN.{length}
-use mathlib.Core.Path.{sym, ◌∙◌}
 use Rattle.utf8.specs.Walking.{blocks_from}
-use Rattle.utf8.proofs.Reading.{read_stops}
-use Rattle.utf8.proofs.BlockLaws.{Blocks, blocks_start, blocks_turn, blocks_refusal, blocks_end}
+use Rattle.utf8.proofs.BlockLaws.{Blocks}
 use Rattle.utf8.proofs.blocks.Given as goal
 
 abbrev pub invariant-loop-at : goal.invariant-loop-at

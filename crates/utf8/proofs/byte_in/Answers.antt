@@ -1,7 +1,6 @@
 use mathlib.Core.Path.{sym, ◌∙◌}
 use borrow.Author.Tests.{le-leb, lt-leb}
 use Rattle.utf8.proofs.Places.{byte_there, byte_missing}
-use borrow.Author.Rules.{rules}
 use Rattle.utf8.proofs.byte_in.Goals as goal
 
 pub returns-then-least-b : goal.returns-then-least-b

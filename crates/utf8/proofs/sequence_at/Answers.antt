@@ -1,56 +1,55 @@
 use Prim.Native.Nat.{◌+◌}
-use mathlib.Core.Path.{◌≡◌, sym, ◌∙◌}
+use mathlib.Core.Path.{◌≡◌, sym, ap, ◌∙◌}
 use mathlib.Core.Bool.{true}
 use lib.Dec.{ltb}
 use lib.ListN.{drop}
-use borrow.Author.Tests.{not-true, not-false, lt-ltb, le-ltb}
+use borrow.Author.Tests.{lt-ltb, le-ltb}
 use Rattle.numbers.specs.Choice.{pick, both}
-use Rattle.utf8.specs.Walking.{width}
+use Rattle.utf8.specs.Walking.{width, sized}
 use Rattle.utf8.proofs.Places.{first, continues, second_told, width_one, width_none, width_past, width_two, width_long}
-use borrow.Author.Rules.{rules}
 use Rattle.utf8.proofs.sequence_at.Goals as goal
 
 pub returns-then-first-lt128 : goal.returns-then-first-lt128
-returns-then-first-lt128 c = sym (width_one _ _ c.requires c.if-first-lt128.true)
+returns-then-first-lt128 c = ap sized (sym (width_one _ _ c.requires c.if-first-lt128.true))
 
 pub returns-then-first-lt194 : goal.returns-then-first-lt194
-returns-then-first-lt194 c = sym (width_none _ _ c.requires c.if-first-lt128.false c.if-first-lt194.true)
+returns-then-first-lt194 c = ap sized (sym (width_none _ _ c.requires c.if-first-lt128.false c.if-first-lt194.true))
 
 pub returns-then-byte_in : goal.returns-then-byte_in
-returns-then-byte_in c = sym (width_two _ _ c.requires c.if-first-lt194.false c.if-first-lt224.true ∙ rw (← c.byte_in.ensures, c.if-byte_in.true))
+returns-then-byte_in c = sym (ap sized (width_two _ _ c.requires c.if-first-lt194.false c.if-first-lt224.true) ∙ rw (← c.byte_in.ensures, c.if-byte_in.true))
 
 pub returns-then-first-lt224 : goal.returns-then-first-lt224
-returns-then-first-lt224 c = sym (width_two _ _ c.requires c.if-first-lt194.false c.if-first-lt224.true ∙ rw (← c.byte_in.ensures, c.if-byte_in.false))
+returns-then-first-lt224 c = sym (ap sized (width_two _ _ c.requires c.if-first-lt194.false c.if-first-lt224.true) ∙ rw (← c.byte_in.ensures, c.if-byte_in.false))
 
 pub returns-then-first-gt244 : goal.returns-then-first-gt244
-returns-then-first-gt244 c = sym (width_past _ _ c.requires c.if-first-gt244.true)
+returns-then-first-gt244 c = ap sized (sym (width_past _ _ c.requires c.if-first-gt244.true))
 
 pub returns-then-not-byte_in : goal.returns-then-not-byte_in
 returns-then-not-byte_in c = let long : width (drop c.args.at c.args.s.now) ≡ pick (both c.byte_in-2.result (both (continues c.args.s.now (c.args.at + 2)) (pick (ltb (first c.args.s.now c.args.at) 0xF0) true (continues c.args.s.now (c.args.at + 3))))) (pick (ltb (first c.args.s.now c.args.at) 0xF0) 3 4) 0 = let a = c.args in
     width_long a.s.now a.at c.requires c.if-first-lt224.false c.if-first-gt244.false
     ∙ rw (second_told a.s.now a.at c.limit-least.ensures c.limit-most.ensures c.byte_in-2.ensures) in
-    sym (long ∙ rw c.if-not-byte_in.true)
+    sym (ap sized long ∙ rw c.if-not-byte_in.true)
 
 pub returns-then-not-byte_in-2 : goal.returns-then-not-byte_in-2
 returns-then-not-byte_in-2 c = let long : width (drop c.args.at c.args.s.now) ≡ pick (both c.byte_in-2.result (both (continues c.args.s.now (c.args.at + 2)) (pick (ltb (first c.args.s.now c.args.at) 0xF0) true (continues c.args.s.now (c.args.at + 3))))) (pick (ltb (first c.args.s.now c.args.at) 0xF0) 3 4) 0 = let a = c.args in
     width_long a.s.now a.at c.requires c.if-first-lt224.false c.if-first-gt244.false
     ∙ rw (second_told a.s.now a.at c.limit-least.ensures c.limit-most.ensures c.byte_in-2.ensures) in
-    sym (long ∙ rw (c.if-not-byte_in.false, ← c.byte_in-3.ensures, c.if-not-byte_in-2.true))
+    sym (ap sized long ∙ rw (c.if-not-byte_in.false, ← c.byte_in-3.ensures, c.if-not-byte_in-2.true))
 
 pub returns-then-first-lt240 : goal.returns-then-first-lt240
 returns-then-first-lt240 c = let long : width (drop c.args.at c.args.s.now) ≡ pick (both c.byte_in-2.result (both (continues c.args.s.now (c.args.at + 2)) (pick (ltb (first c.args.s.now c.args.at) 0xF0) true (continues c.args.s.now (c.args.at + 3))))) (pick (ltb (first c.args.s.now c.args.at) 0xF0) 3 4) 0 = let a = c.args in
     width_long a.s.now a.at c.requires c.if-first-lt224.false c.if-first-gt244.false
     ∙ rw (second_told a.s.now a.at c.limit-least.ensures c.limit-most.ensures c.byte_in-2.ensures) in
-    sym (long ∙ rw (c.if-not-byte_in.false, ← c.byte_in-3.ensures, c.if-not-byte_in-2.false, lt-ltb _ _ c.if-first-lt240.true))
+    sym (ap sized long ∙ rw (c.if-not-byte_in.false, ← c.byte_in-3.ensures, c.if-not-byte_in-2.false, lt-ltb _ _ c.if-first-lt240.true))
 
 pub returns-then-not-byte_in-3 : goal.returns-then-not-byte_in-3
 returns-then-not-byte_in-3 c = let long : width (drop c.args.at c.args.s.now) ≡ pick (both c.byte_in-2.result (both (continues c.args.s.now (c.args.at + 2)) (pick (ltb (first c.args.s.now c.args.at) 0xF0) true (continues c.args.s.now (c.args.at + 3))))) (pick (ltb (first c.args.s.now c.args.at) 0xF0) 3 4) 0 = let a = c.args in
     width_long a.s.now a.at c.requires c.if-first-lt224.false c.if-first-gt244.false
     ∙ rw (second_told a.s.now a.at c.limit-least.ensures c.limit-most.ensures c.byte_in-2.ensures) in
-    sym (long ∙ rw (c.if-not-byte_in.false, ← c.byte_in-3.ensures, c.if-not-byte_in-2.false, le-ltb _ _ c.if-first-lt240.false, ← c.byte_in-4.ensures, c.if-not-byte_in-3.true))
+    sym (ap sized long ∙ rw (c.if-not-byte_in.false, ← c.byte_in-3.ensures, c.if-not-byte_in-2.false, le-ltb _ _ c.if-first-lt240.false, ← c.byte_in-4.ensures, c.if-not-byte_in-3.true))
 
 pub returns : goal.returns
 returns c = let long : width (drop c.args.at c.args.s.now) ≡ pick (both c.byte_in-2.result (both (continues c.args.s.now (c.args.at + 2)) (pick (ltb (first c.args.s.now c.args.at) 0xF0) true (continues c.args.s.now (c.args.at + 3))))) (pick (ltb (first c.args.s.now c.args.at) 0xF0) 3 4) 0 = let a = c.args in
     width_long a.s.now a.at c.requires c.if-first-lt224.false c.if-first-gt244.false
     ∙ rw (second_told a.s.now a.at c.limit-least.ensures c.limit-most.ensures c.byte_in-2.ensures) in
-    sym (long ∙ rw (c.if-not-byte_in.false, ← c.byte_in-3.ensures, c.if-not-byte_in-2.false, le-ltb _ _ c.if-first-lt240.false, ← c.byte_in-4.ensures, c.if-not-byte_in-3.false))
+    sym (ap sized long ∙ rw (c.if-not-byte_in.false, ← c.byte_in-3.ensures, c.if-not-byte_in-2.false, le-ltb _ _ c.if-first-lt240.false, ← c.byte_in-4.ensures, c.if-not-byte_in-3.false))

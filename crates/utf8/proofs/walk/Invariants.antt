@@ -1,9 +1,7 @@
 use Prim.Native.Nat.{◌≤◌, ◌-◌}
-use mathlib.Core.Path.{◌≡◌, refl, sym, ◌∙◌}
-use native.Mathlib.Omega.{arith}
+use mathlib.Core.Path.{◌≡◌}
 use lib.ListN.{length}
 use Rattle.utf8.specs.Walking.{read_to}
-use Rattle.utf8.proofs.Reading.{read_none, read_ill, read_next, next_fits}
 use Rattle.utf8.proofs.walk.Given as goal
 
 abbrev pub invariant-loop-at : goal.invariant-loop-at

@@ -1,7 +1,6 @@
 use mathlib.Core.Path.{sym, ap, ◌∙◌}
 use Prim.Native.Nat.{ℕ}
 use native.Mathlib.Nat.{min-zero}
-use borrow.Author.Rules.{rules}
 use Rattle.checksum.specs.Wide.{finish}
 use Rattle.checksum.proofs.wide.all.Goals as goal
 

@@ -1,6 +1,5 @@
 use native.Mathlib.Omega.{arith}
 use lib.Bits.{xor_lt}
-use borrow.Author.Rules.{rules}
 use Rattle.checksum.specs.Wide.{finish}
 use Rattle.crc_register.proofs.Shifts.{xors, lefts, rights}
 use Rattle.checksum.proofs.Spread.{put}

@@ -1,7 +1,6 @@
 use mathlib.Core.Path.{ap}
 use Prim.Native.Nat.{ℕ}
 use native.Mathlib.Omega.{arith}
-use borrow.Author.Rules.{rules}
 use Rattle.checksum.specs.Wide.{finish}
 use Rattle.checksum.proofs.Turn.{through_last, least}
 use Rattle.checksum.proofs.wide.with_1.Goals as goal
@@ -13,7 +12,6 @@ returns-then-words-lt1 c = let a = c.args in
 pub returns : goal.returns
 unfolding finish
 returns c = let w = c.word in
-    let k = c.shared_slice_known-1 in
     let a = c.args in
-    through_last a.bytes.now (λ j. omega (arith, k.given j)) a.s.a a.s.b a.s.c a.s.d a.s.e w.result c.reduce.result a.words
+    through_last a.bytes.now (λ j. omega (arith, c.type_inv.bytes j)) a.s.a a.s.b a.s.c a.s.d a.s.e w.result c.reduce.result a.words
     w.ensures c.reduce.ensures (omega (arith, c.if-words-lt1.false)) c.requires

@@ -2,7 +2,6 @@ use mathlib.Core.Path.{ap}
 use Prim.Native.Nat.{ℕ}
 use native.Mathlib.Omega.{arith}
 use lib.Bits.{xor_lt}
-use borrow.Author.Rules.{rules}
 use Rattle.checksum.specs.Wide.{finish}
 use Rattle.crc_register.proofs.Shifts.{xors, lefts, rights}
 use Rattle.checksum.proofs.Spread.{put}
@@ -16,8 +15,7 @@ returns-then-words-lt4 c = let a = c.args in
 
 pub returns : goal.returns
 unfolding finish xors lefts rights put
-returns c = let k = c.shared_slice_known-1 in
-    let a = c.args in
+returns c = let a = c.args in
     let w = c.word in
-    put_last a.bytes.now (λ j. omega (arith, k.given j)) 3 shifts_4 multiple_4 a.s.a a.s.b a.s.c a.s.d a.s.e w.result a.words
+    put_last a.bytes.now (λ j. omega (arith, c.type_inv.bytes j)) 3 shifts_4 multiple_4 a.s.a a.s.b a.s.c a.s.d a.s.e w.result a.words
     (xor_lt 64 a.s.a w.result (omega arith) (omega arith)) w.ensures (omega (arith, c.if-words-lt4.false)) c.requires

@@ -1,23 +1,24 @@
+use Rattle.wire.proofs.Laws.{passed_on}
 use Rattle.clusters.specs.Clusters.{cluster}
 use borrow.Author.Rules.{rules}
 use Rattle.clusters.proofs.cluster.cluster_at.Goals as goal
 
-pub returns-in-Found-list_checksum_at : goal.returns-in-Found-list_checksum_at
+pub returns : goal.returns
 unfolding cluster
-returns-in-Found-list_checksum_at c = simp (← c.first_entry_at.ensures, c.in-Found.is, ← c.entries_at.ensures, c.in-Found-entries_at.is, ← c.link_at.ensures, c.in-Found-link_at.is, ← c.list_checksum_at.ensures, c.in-Found-list_checksum_at.is)
+returns c = simp (← c.first_entry_at.ensures, c.in_ok-first_entry.was, ← c.entries_at.ensures, c.in_ok-entries.was, ← c.link_at.ensures, c.in_ok-page_list.was, ← c.list_checksum_at.ensures, c.in_ok-checksum.was)
 
-pub returns-in-Refused-list_checksum_at : goal.returns-in-Refused-list_checksum_at
+pub returns-in_err-checksum : goal.returns-in_err-checksum
 unfolding cluster
-returns-in-Refused-list_checksum_at c = simp (← c.first_entry_at.ensures, c.in-Found.is, ← c.entries_at.ensures, c.in-Found-entries_at.is, ← c.link_at.ensures, c.in-Found-link_at.is, ← c.list_checksum_at.ensures, c.in-Refused-list_checksum_at.is)
+returns-in_err-checksum c = simp (passed_on c.from_residual-in_err-checksum.result _ c.from_residual-in_err-checksum.ensures.1, ← c.first_entry_at.ensures, c.in_ok-first_entry.was, ← c.entries_at.ensures, c.in_ok-entries.was, ← c.link_at.ensures, c.in_ok-page_list.was, ← c.list_checksum_at.ensures, c.in_err-checksum.was)
 
-pub returns-in-Refused-link_at : goal.returns-in-Refused-link_at
+pub returns-in_err-page_list : goal.returns-in_err-page_list
 unfolding cluster
-returns-in-Refused-link_at c = simp (← c.first_entry_at.ensures, c.in-Found.is, ← c.entries_at.ensures, c.in-Found-entries_at.is, ← c.link_at.ensures, c.in-Refused-link_at.is)
+returns-in_err-page_list c = simp (passed_on c.from_residual-in_err-page_list.result _ c.from_residual-in_err-page_list.ensures.1, ← c.first_entry_at.ensures, c.in_ok-first_entry.was, ← c.entries_at.ensures, c.in_ok-entries.was, ← c.link_at.ensures, c.in_err-page_list.was)
 
-pub returns-in-Refused-entries_at : goal.returns-in-Refused-entries_at
+pub returns-in_err-entries : goal.returns-in_err-entries
 unfolding cluster
-returns-in-Refused-entries_at c = simp (← c.first_entry_at.ensures, c.in-Found.is, ← c.entries_at.ensures, c.in-Refused-entries_at.is)
+returns-in_err-entries c = simp (passed_on c.from_residual-in_err-entries.result _ c.from_residual-in_err-entries.ensures.1, ← c.first_entry_at.ensures, c.in_ok-first_entry.was, ← c.entries_at.ensures, c.in_err-entries.was)
 
-pub returns-in-Refused : goal.returns-in-Refused
+pub returns-in_err-first_entry : goal.returns-in_err-first_entry
 unfolding cluster
-returns-in-Refused c = simp (← c.first_entry_at.ensures, c.in-Refused.is)
+returns-in_err-first_entry c = simp (passed_on c.from_residual.result _ c.from_residual.ensures.1, ← c.first_entry_at.ensures, c.in_err-first_entry.was)

@@ -1,6 +1,5 @@
 use Prim.Native.Nat.{◌-◌}
 use Rattle.frames.proofs.Loops.{reached_refused, reached_counted}
-use Rattle.clusters.specs.Answers.{cluster_step}
 use Rattle.clusters.proofs.ClusterLaws.{Summed, summed_none, summed_rule, summed_more, record_fits}
 use mathlib.Core.Path.{sym, ap, ◌∙◌}
 use native.Mathlib.Omega.{arith}
@@ -9,6 +8,3 @@ use Rattle.clusters.proofs.cluster.scan_clusters.Given as goal
 
 abbrev pub invariant-loop-i : goal.invariant-loop-i
 invariant-loop-i l = Summed l.carried l.strict l.file l.list l.count l.s l.initial.at l.i l.at l.sum
-
-abbrev pub decreases-loop-i : goal.decreases-loop-i
-decreases-loop-i l = l.count - l.i

@@ -1,12 +1,12 @@
 use mathlib.Core.Path.{sym, ap, ◌∙◌}
-use Rattle.wire.specs.Answers.{number_step}
-use Rattle.wire.proofs.Laws.{judged_read, judged_missing}
+use Rattle.wire.proofs.Laws.{passed_on, judged_read, judged_missing}
 use Rattle.records.specs.Records.{aliasable}
 use borrow.Author.Rules.{rules}
 use Rattle.column_records.proofs.alias.field_at.Goals as goal
+use Rattle.wire.specs.Answers.{as_step}
 
-pub returns-in-Found : goal.returns-in-Found
-returns-in-Found c = c.judge.ensures ∙ judged_read (aliasable c.args.flags.now) _ (sym c.number_4.ensures ∙ ap number_step c.in-Found.is) c.aliasable-verdict.ensures
+pub returns : goal.returns
+returns c = c.judge.ensures ∙ judged_read (aliasable c.args.flags.now) _ (sym c.number_4.ensures ∙ ap as_step c.in_ok-field.was) c.aliasable-verdict.ensures
 
-pub returns-in-Refused : goal.returns-in-Refused
-returns-in-Refused c = judged_missing (aliasable c.args.flags.now) _ (sym c.number_4.ensures ∙ ap number_step c.in-Refused.is)
+pub returns-in_err-field : goal.returns-in_err-field
+returns-in_err-field c = passed_on c.from_residual.result _ c.from_residual.ensures.1 ∙ (judged_missing (aliasable c.args.flags.now) _ (sym c.number_4.ensures ∙ ap as_step c.in_err-field.was))

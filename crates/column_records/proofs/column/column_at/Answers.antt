@@ -1,23 +1,24 @@
+use Rattle.wire.proofs.Laws.{passed_on}
 use Rattle.records.specs.Records.{column}
 use borrow.Author.Rules.{rules}
 use Rattle.column_records.proofs.column.column_at.Goals as goal
 
-pub returns-in-Refused : goal.returns-in-Refused
+pub returns-in_err-column_type : goal.returns-in_err-column_type
 unfolding column
-returns-in-Refused c = rw (← c.number_2.ensures, c.in-Refused.is)
+returns-in_err-column_type c = rw (passed_on c.from_residual.result _ c.from_residual.ensures.1, ← c.number_2.ensures, c.in_err-column_type.was)
 
-pub returns-in-Refused-bits_at : goal.returns-in-Refused-bits_at
+pub returns-in_err-bits : goal.returns-in_err-bits
 unfolding column
-returns-in-Refused-bits_at c = rw (← c.number_2.ensures, c.in-Found.is, ← c.bits_at.ensures, c.in-Refused-bits_at.is)
+returns-in_err-bits c = rw (passed_on c.from_residual-in_err-bits.result _ c.from_residual-in_err-bits.ensures.1, ← c.number_2.ensures, c.in_ok-column_type.was, ← c.bits_at.ensures, c.in_err-bits.was)
 
-pub returns-in-Refused-number_below : goal.returns-in-Refused-number_below
+pub returns-in_err-field : goal.returns-in_err-field
 unfolding column
-returns-in-Refused-number_below c = rw (← c.number_2.ensures, c.in-Found.is, ← c.bits_at.ensures, c.in-Found-bits_at.is, ← c.number_below.ensures, c.in-Refused-number_below.is)
+returns-in_err-field c = rw (passed_on c.from_residual-in_err-field.result _ c.from_residual-in_err-field.ensures.1, ← c.number_2.ensures, c.in_ok-column_type.was, ← c.bits_at.ensures, c.in_ok-bits.was, ← c.number_below.ensures, c.in_err-field.was)
 
-pub returns-in-Found-listed_4 : goal.returns-in-Found-listed_4
+pub returns : goal.returns
 unfolding column
-returns-in-Found-listed_4 c = rw (← c.number_2.ensures, c.in-Found.is, ← c.bits_at.ensures, c.in-Found-bits_at.is, ← c.number_below.ensures, c.in-Found-number_below.is, ← c.listed_4.ensures, c.in-Found-listed_4.is)
+returns c = rw (← c.number_2.ensures, c.in_ok-column_type.was, ← c.bits_at.ensures, c.in_ok-bits.was, ← c.number_below.ensures, c.in_ok-field.was, ← c.listed_4.ensures, c.in_ok-flags.was)
 
-pub returns-in-Refused-listed_4 : goal.returns-in-Refused-listed_4
+pub returns-in_err-flags : goal.returns-in_err-flags
 unfolding column
-returns-in-Refused-listed_4 c = rw (← c.number_2.ensures, c.in-Found.is, ← c.bits_at.ensures, c.in-Found-bits_at.is, ← c.number_below.ensures, c.in-Found-number_below.is, ← c.listed_4.ensures, c.in-Refused-listed_4.is)
+returns-in_err-flags c = rw (passed_on c.from_residual-in_err-flags.result _ c.from_residual-in_err-flags.ensures.1, ← c.number_2.ensures, c.in_ok-column_type.was, ← c.bits_at.ensures, c.in_ok-bits.was, ← c.number_below.ensures, c.in_ok-field.was, ← c.listed_4.ensures, c.in_err-flags.was)

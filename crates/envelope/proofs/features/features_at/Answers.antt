@@ -1,25 +1,28 @@
+use Prim.Native.Nat.{◌+◌, ◌-◌}
+use Rattle.wire.proofs.Laws.{place_passed_on}
 use Rattle.wire.specs.Reading.{refused}
+use Rattle.wire.specs.Answers.{as_step}
 use borrow.Author.Rules.{rules}
 use mathlib.Core.Path.{◌≡◌, refl, sym, ap, ◌∙◌}
 use native.Mathlib.Omega.{arith}
 use lib.ListN.{length}
 use Rattle.envelope.specs.Features.{features}
-use Rattle.wire.specs.Answers.{number_step}
 use Rattle.envelope.proofs.FeatureLaws.{features_last, features_more, features_refused, features_none}
 use Rattle.envelope.proofs.features.features_at.Goals as goal
 
-pub loop-most-init : goal.loop-most-init
-loop-most-init c = refl
+pub loop-done-init : goal.loop-done-init
+loop-done-init c = let all : length c.args.s.now ≡ length c.args.s.now - 0 = omega arith in ap (λ n. features n c.args.s.now c.args.start) all
 
 pub returns-then-word-eq0 : goal.returns-then-word-eq0
-returns-then-word-eq0 c = sym (c.loop-most.invariant ∙ features_last _ _ _ c.loop-most-test.true c.if-word-eq0.true (sym c.feature_word.ensures ∙ ap number_step c.in-Found.is))
+returns-then-word-eq0 c = sym (c.loop-done.invariant ∙ features_last _ _ _ (omega (arith, c.loop-done-test.true)) c.if-word-eq0.true (sym c.feature_word.ensures ∙ ap as_step c.in_ok-word.was))
 
-pub loop-most-preserved : goal.loop-most-preserved
-loop-most-preserved c = c.loop-most.invariant ∙ features_more _ _ _ c.loop-most-test.true c.if-word-eq0.false (sym c.feature_word.ensures ∙ ap number_step c.in-Found.is)
+pub loop-done-preserved : goal.loop-done-preserved
+loop-done-preserved c = let less : length c.args.s.now - c.loop-done.done - 1 ≡ length c.args.s.now - (c.loop-done.done + 1) = omega arith in
+    c.loop-done.invariant ∙ features_more _ _ _ (omega (arith, c.loop-done-test.true)) c.if-word-eq0.false (sym c.feature_word.ensures ∙ ap as_step c.in_ok-word.was) ∙ ap (λ n. features n c.args.s.now c.in_ok-word.next) less
 
-pub returns-in-Refused : goal.returns-in-Refused
-returns-in-Refused c = sym (c.loop-most.invariant ∙ features_refused _ _ _ c.loop-most-test.true (sym c.feature_word.ensures ∙ ap number_step c.in-Refused.is))
+pub returns-in_err-word : goal.returns-in_err-word
+returns-in_err-word c = place_passed_on c.from_residual.result _ c.from_residual.ensures.1 ∙ (sym (c.loop-done.invariant ∙ features_refused _ _ _ (omega (arith, c.loop-done-test.true)) (sym c.feature_word.ensures ∙ ap as_step c.in_err-word.was)))
 
 pub returns : goal.returns
-returns c = let e : c.loop-most.most ≡ 0 = omega arith in
-    ap refused c.fault_at.ensures ∙ sym (c.loop-most.invariant ∙ ap (λ n. features n c.args.s.now c.loop-most.at) e ∙ features_none _ _)
+returns c = let e : length c.args.s.now - c.loop-done.done ≡ 0 = omega arith in
+    ap refused c.fault_at.ensures ∙ sym (c.loop-done.invariant ∙ ap (λ n. features n c.args.s.now c.loop-done.at) e ∙ features_none _ _)

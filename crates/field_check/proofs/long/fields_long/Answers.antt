@@ -1,17 +1,8 @@
-use Prim.Native.Nat.{◌-◌}
-use native.Mathlib.Omega.{arith}
-use Rattle.field_check.proofs.Lengths.{Counted, counted_none, counted_more, counted_all}
-use borrow.Author.Rules.{rules}
+use Rattle.field_check.proofs.Lengths.{counted_none, counted_more, counted_all}
 use Rattle.field_check.proofs.long.fields_long.Goals as goal
 
 pub loop-i-init : goal.loop-i-init
 loop-i-init c = counted_none _ _
-
-pub overflow_add-i : goal.overflow_add-i
-overflow_add-i c = omega (arith, c.loop-i-test.true)
-
-pub loop-i-smaller : goal.loop-i-smaller
-loop-i-smaller c = omega (arith, c.loop-i-test.true)
 
 pub loop-i-preserved : goal.loop-i-preserved
 loop-i-preserved c = counted_more _ _ c.loop-i.invariant c.loop-i-test.true (rw c.field_row.ensures at c.with_field-total.ensures)

@@ -1,5 +1,4 @@
 use Rattle.field_check.proofs.Lengths.{with_field_long}
-use borrow.Author.Rules.{rules}
 use Rattle.field_check.proofs.long.with_field.Goals as goal
 
 pub returns : goal.returns

@@ -1,6 +1,5 @@
 use Rattle.writing.specs.Header.{field_piece}
 use Rattle.writing.proofs.Items.{first_alone}
-use borrow.Author.Rules.{rules}
 use Rattle.field_check.proofs.number.field_number.Goals as goal
 
 pub returns : goal.returns

@@ -5,7 +5,6 @@ use Rattle.wire.specs.Reading.{unless, listed}
 use Rattle.writing.specs.Header.{field_head_piece, repetition_piece}
 use Rattle.writing.proofs.Items.{first_alone}
 use Rattle.field_check.proofs.Lengths.{repetition_good}
-use borrow.Author.Rules.{rules}
 use Rattle.field_check.proofs.number.head_number.Goals as goal
 
 pub returns : goal.returns

@@ -2,7 +2,6 @@
 use native.Mathlib.Omega.{arith}
 use Rattle.figure_table.specs.Table.{row_text}
 use Rattle.figure_table.proofs.RowLaws.{begun, begun_more}
-use borrow.Author.Rules.{rules}
 use Rattle.figure_table.proofs.cells.store_row.Goals as goal
 
 pub shape_of-out : goal.shape_of-out

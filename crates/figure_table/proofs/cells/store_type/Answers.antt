@@ -1,5 +1,4 @@
 -- `figure_table::cells::store_type` meets its contract. Assumes nothing.
-use borrow.Author.Rules.{rules}
 use Rattle.figure_table.proofs.RowLaws.{type_stored, type_long}
 use Rattle.figure_table.proofs.cells.store_type.Goals as goal
 

@@ -1,7 +1,6 @@
 -- `figure_table::numerals::with_digit` meets its contract. Assumes nothing.
 use native.Mathlib.Omega.{arith}
 use Rattle.figure_table.proofs.NumeralLaws.{no_digit_low, no_digit_high, digit_passes, digit_fits}
-use borrow.Author.Rules.{rules}
 use Rattle.figure_table.proofs.numerals.with_digit.Goals as goal
 
 pub returns-then-byte-lt48 : goal.returns-then-byte-lt48

@@ -4,7 +4,6 @@ use mathlib.Core.Path.{ap, ◌∙◌}
 use Prim.Native.Nat.{ℕ}
 use lib.Dec.{eqb}
 use Rattle.rows.specs.Words.{no_checksum}
-use borrow.Author.Rules.{rules}
 use Rattle.footer_check.proofs.carried.carries_checksums.Goals as goal
 
 pub returns-then-clusters-lt-CLUSTER_WORDS : goal.returns-then-clusters-lt-CLUSTER_WORDS

@@ -1,6 +1,5 @@
 use mathlib.Core.Path.{refl}
 use Rattle.writing.specs.Footer.{checksum_piece}
-use borrow.Author.Rules.{rules}
 use Rattle.footer_check.proofs.items.checksum_number.Goals as goal
 
 pub returns-then-carried : goal.returns-then-carried

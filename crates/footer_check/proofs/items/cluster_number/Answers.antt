@@ -2,7 +2,6 @@ use Prim.Native.Nat.{◌^◌}
 use borrow.Author.Tests.{lt-ltb}
 use Rattle.writing.specs.Footer.{cluster_piece}
 use Rattle.writing.proofs.Items.{first_alone}
-use borrow.Author.Rules.{rules}
 use native.Mathlib.Omega.{arith}
 use Rattle.footer_check.proofs.items.cluster_number.Goals as goal
 

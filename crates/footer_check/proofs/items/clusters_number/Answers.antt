@@ -1,9 +1,7 @@
-use Prim.Native.Nat.{◌-◌}
 use Rattle.rows.specs.Tables.{cluster_row}
 use Rattle.writing.specs.Footer.{cluster_item}
 use Rattle.writing.proofs.Items.{passed_all}
-use Rattle.footer_check.proofs.Rows.{Summed, summed_none, summed_refused, summed_fits, summed_more}
-use borrow.Author.Rules.{rules}
+use Rattle.footer_check.proofs.Rows.{summed_none, summed_refused, summed_fits, summed_more}
 use native.Mathlib.Omega.{arith}
 use Rattle.footer_check.proofs.items.clusters_number.Goals as goal
 

@@ -1,6 +1,5 @@
 use Rattle.writing.specs.Footer.{checksum_piece}
 use Rattle.stores.proofs.Storing.{stored_none}
-use borrow.Author.Rules.{rules}
 use Rattle.footer_writer.proofs.stored_records.write_checksum.Goals as goal
 
 pub returns-then-carried : goal.returns-then-carried

@@ -1,6 +1,5 @@
 use Rattle.stores.proofs.Storing.{stored_none, stored_then, stored_as_lem}
 use Rattle.footer_writer.proofs.Bytes.{cluster_record}
-use borrow.Author.Rules.{rules}
 use Rattle.footer_writer.proofs.stored_records.write_cluster.Goals as goal
 
 pub returns : goal.returns

@@ -1,6 +1,5 @@
 use Rattle.writing.specs.Footer.{link_piece}
 use Rattle.stores.proofs.Storing.{stored_none, stored_then}
-use borrow.Author.Rules.{rules}
 use Rattle.footer_writer.proofs.stored_records.write_link.Goals as goal
 
 pub returns : goal.returns

@@ -2,7 +2,6 @@ use Rattle.writing.specs.Rows.{footer_rows}
 use Rattle.writing.specs.Footer.{footer_piece}
 use Rattle.stores.proofs.Sealing.{sealed_over}
 use Rattle.footer_writer.proofs.Bytes.{front_stored}
-use borrow.Author.Rules.{rules}
 use Rattle.footer_writer.proofs.write.write_envelope.Goals as goal
 
 pub returns : goal.returns

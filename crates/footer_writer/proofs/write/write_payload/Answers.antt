@@ -1,7 +1,6 @@
 use Rattle.writing.specs.Footer.{footer_payload_piece}
 use Rattle.stores.proofs.Storing.{stored_none, stored_then, stored_as_lem}
 use Rattle.footer_writer.proofs.Bytes.{empty_bytes}
-use borrow.Author.Rules.{rules}
 use Rattle.footer_writer.proofs.write.write_payload.Goals as goal
 
 pub returns : goal.returns

@@ -2,7 +2,6 @@ use Prim.Native.Nat.{◌/◌}
 use lib.ListN.{length}
 use Rattle.rows.specs.Tables.{alias_row}
 use Rattle.rows.proofs.FirstRows.{rows_length}
-use borrow.Author.Rules.{rules}
 use Rattle.header_check.proofs.aliases.alias_list_number.Goals as goal
 
 pub returns : goal.returns

@@ -1,6 +1,5 @@
 use Rattle.writing.specs.Header.{alias_piece}
 use Rattle.writing.proofs.Items.{first_alone}
-use borrow.Author.Rules.{rules}
 use Rattle.header_check.proofs.aliases.alias_number.Goals as goal
 
 pub returns : goal.returns

@@ -1,5 +1,4 @@
 use Rattle.header_check.proofs.Words.{aliasable_good, aliasable_bad}
-use borrow.Author.Rules.{rules}
 use Rattle.header_check.proofs.aliases.aliasable.Goals as goal
 
 pub returns-then-flags-eq1 : goal.returns-then-flags-eq1

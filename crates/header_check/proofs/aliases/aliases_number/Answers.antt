@@ -1,28 +1,11 @@
-use Prim.Native.Nat.{◌-◌}
-use native.Mathlib.Omega.{arith}
 use Rattle.rows.specs.Words.{field_width}
 use Rattle.rows.specs.Tables.{field_row, alias_row}
 use Rattle.header.specs.Header.{flags_of}
 use Rattle.writing.specs.Rows.{all_rows}
 use Rattle.writing.specs.Header.{alias_item}
-use Rattle.writing.proofs.Items.{Passed, passed_none, passed_more, passed_refused, passed_all}
+use Rattle.verdicts.proofs.FirstRefused.{refused_first}
 use borrow.Author.Rules.{rules}
 use Rattle.header_check.proofs.aliases.aliases_number.Goals as goal
 
-pub loop-i-init : goal.loop-i-init
-loop-i-init c = passed_none _ _ _ _
-
-pub returns-then-number-ne0 : goal.returns-then-number-ne0
-returns-then-number-ne0 c = passed_refused _ _ _ c.loop-i.invariant c.loop-i-test.true (rw c.alias_row-row.ensures at c.alias_number-number.ensures) c.if-number-ne0.true
-
-pub overflow_add-i : goal.overflow_add-i
-overflow_add-i c = omega (arith, c.loop-i-test.true)
-
-pub loop-i-smaller : goal.loop-i-smaller
-loop-i-smaller c = omega (arith, c.loop-i-test.true)
-
-pub loop-i-preserved : goal.loop-i-preserved
-loop-i-preserved c = passed_more _ _ _ c.loop-i.invariant c.loop-i-test.true (rw c.alias_row-row.ensures at c.alias_number-number.ensures) c.if-number-ne0.false
-
 pub returns : goal.returns
-returns c = passed_all _ _ _ c.loop-i.invariant c.loop-i-test.false
+returns c = let a = c.args in refused_first (alias_item (flags_of (all_rows field_row field_width a.fields.now)) a.columns) alias_row a.aliases.now c.first_of_rows.ensures (λ i r less gives. search rules)

@@ -1,6 +1,5 @@
 use Rattle.writing.specs.Header.{column_piece}
 use Rattle.writing.proofs.Items.{first_alone}
-use borrow.Author.Rules.{rules}
 use Rattle.header_check.proofs.columns.column_number.Goals as goal
 
 pub returns : goal.returns

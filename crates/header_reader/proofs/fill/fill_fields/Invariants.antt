@@ -13,6 +13,3 @@ use Rattle.header_reader.proofs.fill.fill_fields.Given as goal
 
 abbrev pub invariant-loop-i : goal.invariant-loop-i
 invariant-loop-i l = Holds (λ k. field_words (get_or l.marks k 0)) (first_rows field_row l.field_rows l.i) l.initial.table l.table × (l.i ≤ l.n)
-
-abbrev pub decreases-loop-i : goal.decreases-loop-i
-decreases-loop-i l = l.n - l.i

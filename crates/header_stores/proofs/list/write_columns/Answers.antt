@@ -1,25 +1,8 @@
-use Prim.Native.Nat.{ℕ, ◌-◌}
-use mathlib.Core.Path.{◌≡◌, refl, ap}
-use native.Mathlib.Omega.{arith}
-use lib.ListN.{length}
 use Rattle.rows.specs.Tables.{column_row}
-use Rattle.rows.specs.declared.ColumnRow.{ColumnRow}
-use Rattle.writing.specs.Piece.{record_piece}
-use Rattle.writing.specs.Header.{column_item, column_piece}
-use Rattle.stores.proofs.Storing.{stored_as_lem}
-use Rattle.stores.proofs.Laid.{Laid, laid_none, laid_more, laid_all}
+use Rattle.writing.specs.Header.{column_item}
+use Rattle.stores.proofs.FramedLaws.{rows_stored}
 use borrow.Author.Rules.{rules}
 use Rattle.header_stores.proofs.list.write_columns.Goals as goal
 
-pub loop-i-init : goal.loop-i-init
-loop-i-init c = (refl, λ m. laid_none _ _ _ _ _ _)
-
-pub loop-i-preserved : goal.loop-i-preserved
-loop-i-preserved c = let row = c.column_row-row.ensures in
-    (omega (arith, c.write_column-next.auto, c.loop-i.invariant.0), λ m. laid_more _ _ _ (c.loop-i.invariant.1 m) c.loop-i-test.true (stored_as_lem (ap (λ (r : ColumnRow). (record_piece (column_piece m r)).bytes) row) (c.write_column-next.ensures m)))
-
-pub shape_of-out : goal.shape_of-out
-shape_of-out c = c.loop-i.invariant.0
-
 pub returns : goal.returns
-returns c = λ m. laid_all _ _ _ (c.loop-i.invariant.1 m) c.loop-i-test.false
+returns c = λ fields. rows_stored (column_item fields) column_row c.args.columns.now (λ i place before stop after less k. search rules) c.store_rows.ensures

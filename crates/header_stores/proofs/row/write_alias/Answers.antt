@@ -2,7 +2,6 @@
 use Rattle.writing.specs.Header.{alias_piece}
 use Rattle.stores.proofs.Storing.{stored_none, stored_then, stored_sized}
 use Rattle.header_stores.proofs.Sizes.{alias_size}
-use borrow.Author.Rules.{rules}
 use Rattle.header_stores.proofs.row.write_alias.Goals as goal
 
 pub returns : goal.returns

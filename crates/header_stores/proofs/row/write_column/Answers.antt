@@ -2,7 +2,6 @@
 use Rattle.writing.specs.Header.{column_piece}
 use Rattle.stores.proofs.Storing.{stored_none, stored_then, stored_sized}
 use Rattle.header_stores.proofs.Sizes.{column_size}
-use borrow.Author.Rules.{rules}
 use Rattle.header_stores.proofs.row.write_column.Goals as goal
 
 pub returns : goal.returns

@@ -2,7 +2,6 @@
 use native.Mathlib.Omega.{arith}
 use Rattle.writing.specs.Header.{field_piece}
 use Rattle.stores.proofs.Storing.{stored_none, stored_then, stored_record}
-use borrow.Author.Rules.{rules}
 use Rattle.header_stores.proofs.row.write_field.Goals as goal
 
 pub overflow_sub-end : goal.overflow_sub-end

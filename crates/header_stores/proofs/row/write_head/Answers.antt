@@ -1,7 +1,6 @@
 -- `header_stores::row::write_head` meets its contract. Assumes nothing.
 use Rattle.writing.specs.Header.{field_head_piece}
 use Rattle.stores.proofs.Storing.{stored_none, stored_then}
-use borrow.Author.Rules.{rules}
 use Rattle.header_stores.proofs.row.write_head.Goals as goal
 
 pub returns : goal.returns

@@ -2,7 +2,6 @@
 use borrow.Author.Tests.{eq-eqb, ne_eqb}
 use Rattle.writing.specs.Header.{repetition_piece}
 use Rattle.stores.proofs.Storing.{stored_none}
-use borrow.Author.Rules.{rules}
 use Rattle.header_stores.proofs.row.write_repetition.Goals as goal
 
 pub returns-then-flags-eq1 : goal.returns-then-flags-eq1

@@ -6,7 +6,6 @@ use lib.ListN.{length}
 use Rattle.tree.specs.Bytes.{spelled}
 use Rattle.writing.specs.Piece.{text}
 use Rattle.stores.proofs.Storing.{stored_then, stored_as_lem}
-use borrow.Author.Rules.{rules}
 use Rattle.header_stores.proofs.row.write_text.Goals as goal
 
 pub returns : goal.returns

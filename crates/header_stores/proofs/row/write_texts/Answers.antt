@@ -1,7 +1,6 @@
 -- `header_stores::row::write_texts` meets its contract. Assumes nothing.
 use Rattle.writing.specs.Header.{field_texts_piece}
 use Rattle.stores.proofs.Storing.{stored_none, stored_then}
-use borrow.Author.Rules.{rules}
 use Rattle.header_stores.proofs.row.write_texts.Goals as goal
 
 pub returns : goal.returns

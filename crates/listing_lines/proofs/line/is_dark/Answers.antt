@@ -1,6 +1,5 @@
 -- `listing_lines::line::is_dark` meets its contract. Assumes nothing.
 use lib.ListN.{get_or-eq_default}
-use borrow.Author.Rules.{rules}
 use Rattle.listing_lines.proofs.line.is_dark.Goals as goal
 
 pub returns : goal.returns

@@ -1,5 +1,4 @@
 -- `listing_lines::line::line_of` meets its contract. Assumes nothing.
-use borrow.Author.Rules.{rules}
 use Rattle.listing_lines.specs.Line.{line_of}
 use Rattle.listing_lines.proofs.line.line_of.Goals as goal
 

@@ -1,5 +1,4 @@
 -- `listing_lines::store::store_end` meets its contract. Assumes nothing.
-use borrow.Author.Rules.{rules}
 use Rattle.listing_lines.proofs.store.store_end.Goals as goal
 
 pub returns-then-dark : goal.returns-then-dark

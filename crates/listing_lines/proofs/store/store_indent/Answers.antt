@@ -1,7 +1,6 @@
 -- `listing_lines::store::store_indent` meets its contract. Assumes nothing.
 use Rattle.stores.proofs.Storing.{stored_then, stored_as_lem}
 use Rattle.listing_lines.proofs.LineLaws.{spaces_twice}
-use borrow.Author.Rules.{rules}
 use Rattle.listing_lines.proofs.store.store_indent.Goals as goal
 
 pub returns : goal.returns

@@ -3,7 +3,6 @@ use native.Mathlib.Omega.{arith}
 use Rattle.stores.proofs.Storing.{stored_then, stored_as_lem}
 use Rattle.listing_lines.specs.Line.{line_bytes}
 use Rattle.listing_lines.proofs.LineLaws.{line_pieces}
-use borrow.Author.Rules.{rules}
 use Rattle.listing_lines.proofs.store.store_line.Goals as goal
 
 pub shape_of-out : goal.shape_of-out

@@ -1,12 +1,11 @@
-use Prim.Native.Nat.{◌+◌, ◌-◌}
-use mathlib.Core.Path.{sym, ◌∙◌}
+use Prim.Native.Nat.{◌+◌}
+use mathlib.Core.Path.{◌≡◌, sym, ◌∙◌}
 use native.Mathlib.Omega.{arith}
 use lib.ListN.{length, length-map}
 use borrow.Author.Tests.{leb-false}
-use borrow.Author.Rules.{rules}
-use Rattle.listing.specs.Lines.{shown_byte, shown}
+use Rattle.listing.specs.Lines.{shown_byte}
 use Rattle.stores.proofs.Storing.{stored_nothing}
-use Rattle.stores.proofs.Copying.{Copying, copy_none, copy_more, copy_all}
+use Rattle.stores.proofs.Copying.{copy_none, copy_more, copy_all}
 use Rattle.listing_lines.proofs.LineLaws.{shown_at}
 use Rattle.listing_lines.proofs.store.store_shown.Goals as goal
 
@@ -18,9 +17,6 @@ overflow_add-out c = let size = length-map c.args.bytes.now shown_byte in omega 
 
 pub bounds-out-at : goal.bounds-out-at
 bounds-out-at c = let size = length-map c.args.bytes.now shown_byte in omega (arith, c.loop-i.invariant.room)
-
-pub overflow_add-i : goal.overflow_add-i
-overflow_add-i c = let size = length-map c.args.bytes.now shown_byte in omega (arith, c.loop-i.invariant.room)
 
 pub loop-i-preserved : goal.loop-i-preserved
 loop-i-preserved c = let bytes = c.args.bytes.now in
@@ -34,7 +30,9 @@ pub shape_of-out-then-has_room : goal.shape_of-out-then-has_room
 shape_of-out-then-has_room c = c.loop-i.invariant.long
 
 pub returns-then-has_room : goal.returns-then-has_room
-returns-then-has_room c = let size = length-map c.args.bytes.now shown_byte in copy_all c.loop-i.invariant (omega arith)
+returns-then-has_room c = let size = length-map c.args.bytes.now shown_byte in
+    let all : c.loop-i.i ≡ length c.args.bytes.now = omega arith in
+    rw all at (copy_all c.loop-i.invariant (omega arith))
 
 pub returns : goal.returns
 returns c = let size = length-map c.args.bytes.now shown_byte in

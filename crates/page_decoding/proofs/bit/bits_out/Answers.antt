@@ -1,14 +1,8 @@
-use Rattle.std.proofs.Common.{◌≡◌, ℕ, ◌+◌, ◌*◌, ◌/◌, ◌%◌, ◌^◌, get_or, sym, refl, ◌∙◌, ap₂, arith}
+use Rattle.std.proofs.Common.{◌≡◌, ℕ, ◌+◌, ◌*◌, ◌/◌, ◌%◌, ◌^◌, get_or, sym, ◌∙◌, ap₂, arith}
 use Rattle.coding.specs.Layout.{unpacked}
 use Rattle.coding.proofs.Bits.{length_unpacked, get_or_unpacked}
 use Rattle.planes.proofs.Filling.{fill_turn, fill_done}
 use Rattle.page_decoding.proofs.bit.bits_out.Goals as goal
-
-pub overflow_cast-byte : goal.overflow_cast-byte
-overflow_cast-byte c = omega (arith, c.type_inv.page c.args.m)
-
-pub loop-j-init : goal.loop-j-init
-loop-j-init c = (omega arith, (refl, refl))
 
 pub loop-j-preserved : goal.loop-j-preserved
 loop-j-preserved c = let a = c.args in
@@ -16,17 +10,12 @@ loop-j-preserved c = let a = c.args in
     let bits = unpacked a.count (8 * a.m) a.page.now in
     let n = length_unpacked a.count (8 * a.m) a.page.now in
     let u : (8 * a.m + l.j) / 8 ≡ a.m = omega arith in
-    let v : (8 * a.m + l.j) % 8 ≡ l.j = omega arith in (
-      omega arith,
-      fill_turn bits a.out.now l.out l.j _ l.invariant.1 (omega arith) (omega arith)
-          (sym (get_or_unpacked a.count (8 * a.m) a.page.now l.j c.loop-j-test.true
-          ∙ ap₂ (λ (x y : ℕ). get_or a.page.now x 0 / 2 ^ y % 2) u v)),
-    )
-
-pub shape_of-out : goal.shape_of-out
-shape_of-out c = c.loop-j.invariant.1.1
+    let v : (8 * a.m + l.j) % 8 ≡ l.j = omega arith in
+    fill_turn bits a.out.now l.out l.j _ l.invariant (omega arith) (omega arith)
+    (sym (get_or_unpacked a.count (8 * a.m) a.page.now l.j c.loop-j-test.true
+    ∙ ap₂ (λ (x y : ℕ). get_or a.page.now x 0 / 2 ^ y % 2) u v))
 
 pub returns : goal.returns
 returns c = let a = c.args in
     let n = length_unpacked a.count (8 * a.m) a.page.now in
-    c.loop-j.invariant.1.0 ∙ fill_done (unpacked a.count (8 * a.m) a.page.now) a.out.now c.loop-j.j (omega arith)
+    c.loop-j.invariant.0 ∙ fill_done (unpacked a.count (8 * a.m) a.page.now) a.out.now c.loop-j.j (omega arith)

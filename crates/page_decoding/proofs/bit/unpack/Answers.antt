@@ -3,7 +3,7 @@ use borrow.Rule.Slice.PartMut.{put_mid}
 use Rattle.numbers.specs.Rows.{over}
 use Rattle.coding.specs.Layout.{unpacked}
 use Rattle.coding.proofs.Bits.{length_unpacked, unpacked_more}
-use Rattle.page_decoding.proofs.Blocks.{laid_more, laid_room}
+use Rattle.page_decoding.proofs.Blocks.{laid_more}
 use Rattle.page_decoding.proofs.bit.unpack.Invariants.{Unpacked}
 use Rattle.page_decoding.proofs.bit.unpack.Goals as goal
 
@@ -20,50 +20,15 @@ more page out₀ out new m k n total room u e =
 
 pub loop-m-init : goal.loop-m-init
 unfolding unpacked
-loop-m-init c = (omega arith, (refl, refl))
-
-pub bits_out-requires : goal.bits_out-requires
-bits_out-requires c = let l = c.loop-m in
-    (omega arith, omega arith, laid_room (8 * l.m) 8 l.out (omega arith))
+loop-m-init c = (refl, refl)
 
 pub loop-m-preserved : goal.loop-m-preserved
 loop-m-preserved c = let a = c.args in
-    let l = c.loop-m in (
-      omega arith,
-      more a.page.now a.out.now l.out _ l.m 8 (8 * (l.m + 1)) (omega arith) (omega arith) l.invariant.1 c.bits_out.ensures,
-    )
-
-pub bits_out-requires-then-rest-gt0 : goal.bits_out-requires-then-rest-gt0
-bits_out-requires-then-rest-gt0 c = let a = c.args in
-    (omega arith, omega arith, laid_room (8 * (a.n / 8)) (a.n % 8) c.loop-m.out (omega arith))
-
-pub shape_of-out-then-rest-gt0 : goal.shape_of-out-then-rest-gt0
-shape_of-out-then-rest-gt0 c = let last : (new : List ℕ) → let a = c.args in
-    let out = c.loop-m.out in
-    let from = 8 * (a.n / 8) in
-    new ≡ over (unpacked (a.n % 8) from a.page.now) (take (length out - from) (drop from out))
-    → Unpacked a.page.now a.out.now a.n (put_mid from (length out - from) out new) = λ new e. let a = c.args in
     let l = c.loop-m in
-    let all_turns : a.n / 8 ≡ l.m = omega arith in
-    more a.page.now a.out.now l.out new (a.n / 8) (a.n % 8) a.n (omega arith) (omega arith) (rw all_turns l.invariant.1) e in
-    (last _ c.bits_out-then-rest-gt0.ensures).1
+    more a.page.now a.out.now l.out _ l.m 8 (8 * (l.m + 1)) (omega arith) (omega arith) l.invariant c.bits_out.ensures
 
 pub returns-then-rest-gt0 : goal.returns-then-rest-gt0
-returns-then-rest-gt0 c = let last : (new : List ℕ) → let a = c.args in
-    let out = c.loop-m.out in
-    let from = 8 * (a.n / 8) in
-    new ≡ over (unpacked (a.n % 8) from a.page.now) (take (length out - from) (drop from out))
-    → Unpacked a.page.now a.out.now a.n (put_mid from (length out - from) out new) = λ new e. let a = c.args in
+returns-then-rest-gt0 c = let a = c.args in
     let l = c.loop-m in
     let all_turns : a.n / 8 ≡ l.m = omega arith in
-    more a.page.now a.out.now l.out new (a.n / 8) (a.n % 8) a.n (omega arith) (omega arith) (rw all_turns l.invariant.1) e in
-    (last _ c.bits_out-then-rest-gt0.ensures).0
-
-pub shape_of-out-else-rest-gt0 : goal.shape_of-out-else-rest-gt0
-shape_of-out-else-rest-gt0 c = c.loop-m.invariant.1.1
-
-pub returns-else-rest-gt0 : goal.returns-else-rest-gt0
-returns-else-rest-gt0 c = let a = c.args in
-    let l = c.loop-m in
-    let all : 8 * l.m ≡ a.n = omega arith in
-    l.invariant.1.0 ∙ ap (λ (k : ℕ). over (unpacked k 0 a.page.now) a.out.now) all
+    (more a.page.now a.out.now l.out _ (a.n / 8) (a.n % 8) a.n (omega arith) (omega arith) (rw all_turns l.invariant) c.bits_out-then-rest-gt0.ensures).0

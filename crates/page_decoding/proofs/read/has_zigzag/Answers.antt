@@ -1,11 +1,8 @@
 -- `page_decoding::read::has_zigzag` meets its contract: the mark, and no type of at most 8 bits has it. Assumes nothing.
 use Rattle.std.proofs.Common.{sym, ◌∙◌, arith, le-ltb}
 use mathlib.Core.Bool.{false≢true}
-use Rattle.page_rules.proofs.Widths.{split_width, no_zigzag}
+use Rattle.page_rules.proofs.Widths.{no_zigzag}
 use Rattle.page_decoding.proofs.read.has_zigzag.Goals as goal
-
-pub returns-then-width-gt8 : goal.returns-then-width-gt8
-returns-then-width-gt8 c = (λ _. split_width c.args.width c.requires (omega (arith, c.if-width-gt8.true)), λ t e m. c.zigzag_in.ensures ∙ m.is_zigzag)
 
 pub returns-else-width-gt8 : goal.returns-else-width-gt8
 returns-else-width-gt8 c = let w = c.args.width in

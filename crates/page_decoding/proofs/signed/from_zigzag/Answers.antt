@@ -1,10 +1,7 @@
 -- `page_decoding::signed::from_zigzag` meets its contract. Assumes nothing.
 use Rattle.std.proofs.Common.{◌/◌, sym, ◌∙◌, arith}
-use Rattle.coding.proofs.Signs.{read_small, lowered_fits, lowered, from_zigzag_even, from_zigzag_odd}
+use Rattle.coding.proofs.Signs.{read_small, lowered, from_zigzag_even, from_zigzag_odd}
 use Rattle.page_decoding.proofs.signed.from_zigzag.Goals as goal
-
-pub overflow_sub-result : goal.overflow_sub-result
-overflow_sub-result c = lowered_fits (c.args.z / 2) (omega arith)
 
 pub returns-then-z-eq0 : goal.returns-then-z-eq0
 returns-then-z-eq0 c = read_small (c.args.z / 2) (omega arith) ∙ sym (from_zigzag_even c.args.z c.if-z-eq0.true)

@@ -7,10 +7,10 @@ use Rattle.coding.proofs.Signs.{read, zigzag_reaches}
 use Rattle.page_decoding.proofs.signed.unzigzag.Goals as goal
 
 pub to_bits-requires : goal.to_bits-requires
-to_bits-requires c = let element : read c.from_zigzag.result ≡ from_zigzag c.args.z = to_z-of_z {w = w64} (record { sfits = c.from_zigzag.type_inv }) ∙ c.from_zigzag.ensures in
-    (c.requires.0, subst⁻¹ (Reaches c.args.width) (element) (zigzag_reaches c.args.width c.args.z c.requires.1))
+to_bits-requires c = let a = c.args in
+    let element : read c.from_zigzag.result ≡ from_zigzag a.z = to_z-of_z {w = w64} (record { sfits = c.from_zigzag.type_inv }) ∙ c.from_zigzag.ensures in
+    (c.requires.0, subst⁻¹ (Reaches a.width) element (zigzag_reaches a.width a.z c.requires.1))
 
 pub returns : goal.returns
 unfolding unzigzagged
-returns c = let element : read c.from_zigzag.result ≡ from_zigzag c.args.z = to_z-of_z {w = w64} (record { sfits = c.from_zigzag.type_inv }) ∙ c.from_zigzag.ensures in
-    c.to_bits.ensures ∙ ap (to_bits c.args.width) (element)
+returns c = c.to_bits.ensures ∙ ap (to_bits c.args.width) (to_z-of_z {w = w64} (record { sfits = c.from_zigzag.type_inv }) ∙ c.from_zigzag.ensures)

@@ -1,7 +1,7 @@
 use Rattle.coding.proofs.Bits.{length_packed, get_or_packed, last_byte}
 use Rattle.planes.proofs.Filling.{Filled, fill_turn, fill_done}
 use Rattle.coding.specs.Layout.{bits_byte, packed}
-use mathlib.Core.Path.{◌≡◌, refl, sym, ◌∙◌}
+use mathlib.Core.Path.{◌≡◌, sym, ◌∙◌}
 use mathlib.Core.List.{List}
 use Prim.Native.Nat.{ℕ, ◌+◌, ◌*◌, ◌/◌, ◌%◌, ◌<◌, ◌≤◌}
 use native.Mathlib.Omega.{arith}
@@ -16,51 +16,24 @@ turn words out₀ out m b l r f e =
     let n = length_packed (bytes_for words) words in
     fill_turn (packed (bytes_for words) words) out₀ out m b f (omega arith) (omega arith) (e ∙ sym (get_or_packed (bytes_for words) words m l))
 
-pub loop-m-init : goal.loop-m-init
-loop-m-init c = (omega arith, (refl, refl))
-
-pub bits_byte-requires : goal.bits_byte-requires
-bits_byte-requires c = (omega arith, omega arith, c.requires.1)
-
 pub loop-m-preserved : goal.loop-m-preserved
 loop-m-preserved c = let a = c.args in
     let l = c.loop-m in
-    (omega arith, turn a.words.now a.out.now l.out l.m c.bits_byte.result (omega arith) (omega arith) l.invariant.1 c.bits_byte.ensures)
-
-pub bits_byte-requires-then-rest-gt0 : goal.bits_byte-requires-then-rest-gt0
-bits_byte-requires-then-rest-gt0 c = (omega arith, omega arith, c.requires.1)
-
-pub shape_of-out-then-rest-gt0 : goal.shape_of-out-then-rest-gt0
-shape_of-out-then-rest-gt0 c = let last : let a = c.args in
-    let xs = a.words.now in
-    Filled (packed (bytes_for xs) xs) a.out.now (length xs / 8 + 1) (set c.loop-m.out (length xs / 8) c.bits_byte-then-rest-gt0.result) = let a = c.args in
-    let l = c.loop-m in
-    let xs = a.words.now in
-    let all_turns : length xs / 8 ≡ l.m = omega arith in
-    turn xs a.out.now l.out (length xs / 8) c.bits_byte-then-rest-gt0.result (omega arith) (omega arith) (rw all_turns l.invariant.1)
-    (c.bits_byte-then-rest-gt0.ensures ∙ last_byte (8 * (length xs / 8)) (length xs % 8) xs (omega arith) (omega arith)) in
-    (last).1
+    turn a.words.now a.out.now l.out l.m c.bits_byte.result (omega arith) (omega arith) l.invariant c.bits_byte.ensures
 
 pub returns-then-rest-gt0 : goal.returns-then-rest-gt0
-returns-then-rest-gt0 c = let last : let a = c.args in
-    let xs = a.words.now in
-    Filled (packed (bytes_for xs) xs) a.out.now (length xs / 8 + 1) (set c.loop-m.out (length xs / 8) c.bits_byte-then-rest-gt0.result) = let a = c.args in
+returns-then-rest-gt0 c = let a = c.args in
     let l = c.loop-m in
-    let xs = a.words.now in
-    let all_turns : length xs / 8 ≡ l.m = omega arith in
-    turn xs a.out.now l.out (length xs / 8) c.bits_byte-then-rest-gt0.result (omega arith) (omega arith) (rw all_turns l.invariant.1)
-    (c.bits_byte-then-rest-gt0.ensures ∙ last_byte (8 * (length xs / 8)) (length xs % 8) xs (omega arith) (omega arith)) in
-    let a = c.args in
-    let xs = a.words.now in
+    let xs : List ℕ = a.words.now in
     let n = length_packed (bytes_for xs) xs in
-    (last).0 ∙ fill_done (packed (bytes_for xs) xs) a.out.now (length xs / 8 + 1) (omega arith)
-
-pub shape_of-out-else-rest-gt0 : goal.shape_of-out-else-rest-gt0
-shape_of-out-else-rest-gt0 c = c.loop-m.invariant.1.1
+    let all_turns : length xs / 8 ≡ l.m = omega arith in
+    let last = turn xs a.out.now l.out (length xs / 8) c.bits_byte-then-rest-gt0.result (omega arith) (omega arith) (rw all_turns l.invariant)
+    (c.bits_byte-then-rest-gt0.ensures ∙ last_byte (8 * (length xs / 8)) (length xs % 8) xs (omega arith) (omega arith)) in
+    last.0 ∙ fill_done (packed (bytes_for xs) xs) a.out.now (length xs / 8 + 1) (omega arith)
 
 pub returns-else-rest-gt0 : goal.returns-else-rest-gt0
 returns-else-rest-gt0 c = let a = c.args in
     let l = c.loop-m in
-    let xs = a.words.now in
+    let xs : List ℕ = a.words.now in
     let n = length_packed (bytes_for xs) xs in
-    l.invariant.1.0 ∙ fill_done (packed (bytes_for xs) xs) a.out.now l.m (omega arith)
+    l.invariant.0 ∙ fill_done (packed (bytes_for xs) xs) a.out.now l.m (omega arith)

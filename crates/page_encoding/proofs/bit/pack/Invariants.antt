@@ -2,7 +2,7 @@
 use Rattle.planes.proofs.Filling.{Filled}
 use Rattle.coding.specs.Layout.{packed}
 use mathlib.Core.List.{List}
-use Prim.Native.Nat.{ℕ, ◌+◌, ◌-◌, ◌/◌, ◌≤◌}
+use Prim.Native.Nat.{ℕ, ◌+◌, ◌/◌}
 use lib.ListN.{length}
 use Rattle.page_encoding.proofs.bit.pack.Given as goal
 
@@ -10,7 +10,4 @@ abbrev pub bytes_for : List ℕ → ℕ
 bytes_for words = (length words + 7) / 8
 
 abbrev pub invariant-loop-m : goal.invariant-loop-m
-invariant-loop-m l = (l.m ≤ length l.words / 8) × Filled (packed (bytes_for l.words) l.words) l.initial.out l.m l.out
-
-abbrev pub decreases-loop-m : goal.decreases-loop-m
-decreases-loop-m l = length l.words / 8 - l.m
+invariant-loop-m l = Filled (packed (bytes_for l.words) l.words) l.initial.out l.m l.out

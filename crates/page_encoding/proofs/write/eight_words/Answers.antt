@@ -6,7 +6,6 @@ use native.Mathlib.Omega.{arith}
 use native.Mathlib.Numerals.{add-one}
 use lib.ListN.{length, take, drop, get_or}
 use lib.Seq.{drop-cons}
-use Rattle.page_encoding.proofs.write.eight_words.Goals as goal
 
 word : (n p q : ℕ) (xs l : List ℕ) → p < length xs → q ≡ p + 1 → l ≡ take n (drop q xs) → get_or xs p 0 ∷ l ≡ take (suc n) (drop p xs)
 word n p q xs l h e g = ap (λ (t : List ℕ). get_or xs p 0 ∷ t) g ∙ rw (e, add-one p) (ap (take (suc n)) (sym (drop-cons xs p 0 h)))
@@ -22,6 +21,3 @@ eight p xs h =
     word 2 (p + 5) (p + 6) xs _ (omega arith) (omega arith) (
     word 1 (p + 6) (p + 7) xs _ (omega arith) (omega arith) (
     word 0 (p + 7) (p + 8) xs _ (omega arith) (omega arith) refl)))))))
-
-pub returns : goal.returns
-returns c = eight c.args.from c.args.words.now c.requires

@@ -7,32 +7,19 @@ use Rattle.numbers.specs.Numbers.{trailer}
 use Rattle.page_rules.specs.Page.{size_of, bytes, checked_page}
 use mathlib.Core.Path.{◌≡◌, sym, ap, ◌∙◌}
 use mathlib.Core.List.{List}
-use mathlib.Core.Bool.{Bool, true}
+use mathlib.Core.Bool.{Bool}
 use Prim.Native.Nat.{ℕ, ◌+◌, ◌-◌}
 use native.Mathlib.Omega.{arith}
 use lib.ListN.{length, take}
 use Rattle.page_encoding.proofs.write.write_checked.Goals as goal
 
-pub write_page-requires : goal.write_page-requires
-write_page-requires c = (c.requires.0, c.requires.1, c.requires.2, omega (arith, c.requires.3, c.requires.4))
-
-pub overflow_sub-size : goal.overflow_sub-size
-overflow_sub-size c = let with-trailer : c.args.checksum ≡ true → c.args.size ≡ size_of c.args.column_type (length c.args.words.now) + 4 = λ e. c.requires.3 ∙ ap (λ (b : Bool). size_of c.args.column_type (length c.args.words.now) + trailer b) e in
-    omega (arith, with-trailer c.if-checksum.true)
-
-pub add_checksum-requires : goal.add_checksum-requires
-add_checksum-requires c = let with-trailer : c.args.checksum ≡ true → c.args.size ≡ size_of c.args.column_type (length c.args.words.now) + 4 = λ e. c.requires.3 ∙ ap (λ (b : Bool). size_of c.args.column_type (length c.args.words.now) + trailer b) e in
-    omega (arith, c.write_page.auto.out, c.requires.4, with-trailer c.if-checksum.true)
-
 pub returns-then-checksum : goal.returns-then-checksum
-returns-then-checksum c = let with-trailer : c.args.checksum ≡ true → c.args.size ≡ size_of c.args.column_type (length c.args.words.now) + 4 = λ e. c.requires.3 ∙ ap (λ (b : Bool). size_of c.args.column_type (length c.args.words.now) + trailer b) e in
-    let a = c.args in
+returns-then-checksum c = let a = c.args in
     let bs : List ℕ = bytes a.column_type a.words.now in
-    let h = with-trailer c.if-checksum.true in
+    let h : a.size ≡ size_of a.column_type (length a.words.now) + 4 = c.requires.3 ∙ ap (λ (b : Bool). size_of a.column_type (length a.words.now) + trailer b) c.if-checksum.true in
     let z : length bs ≡ a.size - 4 = length_bytes a.column_type a.words.now c.requires.0 ∙ omega arith in
     c.add_checksum.ensures
-    ∙ ap (λ (o : List ℕ). puts 4 (crc32 (take (a.size - 4) o)) (a.size - 4) o)
-    c.write_page.ensures
+    ∙ ap (λ (o : List ℕ). puts 4 (crc32 (take (a.size - 4) o)) (a.size - 4) o) c.write_page.ensures
     ∙ with_checksum_lem bs a.out.now (a.size - 4) z (omega (arith, c.requires.4))
     ∙ ap (λ (b : Bool). over (checked_page b bs) a.out.now) (sym c.if-checksum.true)
 

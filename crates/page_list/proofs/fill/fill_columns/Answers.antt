@@ -6,7 +6,7 @@ use lib.ListN.{length, take, drop, length-drop}
 use Rattle.numbers.specs.Rows.{flat, over}
 use Rattle.numbers.proofs.Parts.{rest_of}
 use Rattle.wire.specs.Reading.{counted, accepted, rows_of}
-use Rattle.wire.specs.Answers.{number_step}
+use Rattle.wire.specs.Answers.{as_step}
 use Rattle.rows.specs.Words.{page_width, page_words}
 use Rattle.rows.specs.Tables.{column_row}
 use Rattle.rows.specs.declared.ColumnRow.{ColumnRow}
@@ -39,17 +39,17 @@ fill_page_list-requires c = let room = laid_room c.loop-i.invariant c.loop-i-tes
     record { at_value = both.0; at_in_bounds = both.1 }
 
 pub overflow_add-total : goal.overflow_add-total
-overflow_add-total c = let room = laid_room c.loop-i.invariant c.loop-i-test.true c.requires.file_value c.requires.file_in_bounds in let k = laid_count c.loop-i.invariant c.loop-i-test.true (sym (ap number_step c.in-Found.is) ∙ c.fill_page_list.ensures.result_value ∙ ap (λ (r : ColumnRow). counted (pages c.args.strict c.args.file c.loop-i.i (r.bits % 2 ^ 16) c.loop-i.total c.args.s.now c.loop-i.at)) c.column_row-row.ensures) in omega arith
+overflow_add-total c = let room = laid_room c.loop-i.invariant c.loop-i-test.true c.requires.file_value c.requires.file_in_bounds in let k = laid_count c.loop-i.invariant c.loop-i-test.true (sym (ap as_step c.in-Ok.is) ∙ c.fill_page_list.ensures.result_value ∙ ap (λ (r : ColumnRow). counted (pages c.args.strict c.args.file c.loop-i.i (r.bits % 2 ^ 16) c.loop-i.total c.args.s.now c.loop-i.at)) c.column_row-row.ensures) in omega arith
 
 pub loop-i-preserved : goal.loop-i-preserved
-loop-i-preserved c = laid_more c.loop-i.invariant c.loop-i-test.true c.requires.file_value c.requires.file_in_bounds c.fill_page_list.new.table (sym (ap number_step c.in-Found.is) ∙ c.fill_page_list.ensures.result_value ∙ ap (λ (r : ColumnRow). counted (pages c.args.strict c.args.file c.loop-i.i (r.bits % 2 ^ 16) c.loop-i.total c.args.s.now c.loop-i.at)) c.column_row-row.ensures)
+loop-i-preserved c = laid_more c.loop-i.invariant c.loop-i-test.true c.requires.file_value c.requires.file_in_bounds c.fill_page_list.new.table (sym (ap as_step c.in-Ok.is) ∙ c.fill_page_list.ensures.result_value ∙ ap (λ (r : ColumnRow). counted (pages c.args.strict c.args.file c.loop-i.i (r.bits % 2 ^ 16) c.loop-i.total c.args.s.now c.loop-i.at)) c.column_row-row.ensures)
     (c.fill_page_list.ensures.table_after ∙ ap (λ (r : ColumnRow). over (flat page_words (rows_of (pages c.args.strict c.args.file c.loop-i.i (r.bits % 2 ^ 16) c.loop-i.total c.args.s.now c.loop-i.at))) (take (length c.loop-i.table - page_width * c.loop-i.total) (drop (page_width * c.loop-i.total) c.loop-i.table))) c.column_row-row.ensures) c.fill_page_list.auto.table
 
-pub shape_of-table-in-Refused : goal.shape_of-table-in-Refused
-shape_of-table-in-Refused c = absurd (laid_refused c.loop-i.invariant c.loop-i-test.true c.requires.file_value c.requires.file_in_bounds (sym (ap number_step c.in-Refused.is) ∙ c.fill_page_list.ensures.result_value ∙ ap (λ (r : ColumnRow). counted (pages c.args.strict c.args.file c.loop-i.i (r.bits % 2 ^ 16) c.loop-i.total c.args.s.now c.loop-i.at)) c.column_row-row.ensures))
+pub shape_of-table-in-Err : goal.shape_of-table-in-Err
+shape_of-table-in-Err c = absurd (laid_refused c.loop-i.invariant c.loop-i-test.true c.requires.file_value c.requires.file_in_bounds (sym (ap as_step c.in-Err.is) ∙ c.fill_page_list.ensures.result_value ∙ ap (λ (r : ColumnRow). counted (pages c.args.strict c.args.file c.loop-i.i (r.bits % 2 ^ 16) c.loop-i.total c.args.s.now c.loop-i.at)) c.column_row-row.ensures))
 
-pub returns-in-Refused : goal.returns-in-Refused
-returns-in-Refused c = absurd (laid_refused c.loop-i.invariant c.loop-i-test.true c.requires.file_value c.requires.file_in_bounds (sym (ap number_step c.in-Refused.is) ∙ c.fill_page_list.ensures.result_value ∙ ap (λ (r : ColumnRow). counted (pages c.args.strict c.args.file c.loop-i.i (r.bits % 2 ^ 16) c.loop-i.total c.args.s.now c.loop-i.at)) c.column_row-row.ensures))
+pub returns-in-Err : goal.returns-in-Err
+returns-in-Err c = absurd (laid_refused c.loop-i.invariant c.loop-i-test.true c.requires.file_value c.requires.file_in_bounds (sym (ap as_step c.in-Err.is) ∙ c.fill_page_list.ensures.result_value ∙ ap (λ (r : ColumnRow). counted (pages c.args.strict c.args.file c.loop-i.i (r.bits % 2 ^ 16) c.loop-i.total c.args.s.now c.loop-i.at)) c.column_row-row.ensures))
 
 pub shape_of-table : goal.shape_of-table
 shape_of-table c = c.loop-i.invariant.long

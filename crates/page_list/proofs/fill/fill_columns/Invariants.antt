@@ -6,7 +6,6 @@ use lib.ListN.{length, take, drop, length-drop}
 use Rattle.numbers.specs.Rows.{flat, over}
 use Rattle.numbers.proofs.Parts.{rest_of}
 use Rattle.wire.specs.Reading.{counted, accepted, rows_of}
-use Rattle.wire.specs.Answers.{number_step}
 use Rattle.rows.specs.Words.{page_width, page_words}
 use Rattle.rows.specs.Tables.{column_row}
 use Rattle.rows.specs.declared.ColumnRow.{ColumnRow}
@@ -17,6 +16,3 @@ use Rattle.page_list.proofs.fill.fill_columns.Given as goal
 
 abbrev pub invariant-loop-i : goal.invariant-loop-i
 invariant-loop-i l = Laid l.strict l.file l.columns l.list l.count l.s l.initial.at l.i l.at l.total l.initial.table l.table
-
-abbrev pub decreases-loop-i : goal.decreases-loop-i
-decreases-loop-i l = l.count - l.i

@@ -1,7 +1,4 @@
-use Prim.Native.Nat.{◌-◌}
-use Rattle.page_list_check.proofs.Order.{Ordered, ordered_none, ordered_more, ordered_all, order_falls, names_none}
-use borrow.Author.Rules.{rules}
-use native.Mathlib.Omega.{arith}
+use Rattle.page_list_check.proofs.Order.{ordered_none, ordered_more, ordered_all, order_falls, names_none}
 use Rattle.page_list_check.proofs.columns.in_order.Goals as goal
 
 pub loop-i-init : goal.loop-i-init

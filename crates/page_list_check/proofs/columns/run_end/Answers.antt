@@ -1,6 +1,4 @@
-use Prim.Native.Nat.{◌-◌}
-use Rattle.page_list_check.proofs.Order.{InRun, run_none, run_more, run_stops, run_all}
-use borrow.Author.Rules.{rules}
+use Rattle.page_list_check.proofs.Order.{run_none, run_more, run_stops, run_all}
 use native.Mathlib.Omega.{arith}
 use Rattle.page_list_check.proofs.columns.run_end.Goals as goal
 
@@ -14,4 +12,4 @@ pub loop-i-preserved : goal.loop-i-preserved
 loop-i-preserved c = run_more c.args.pages.now c.loop-i.invariant c.loop-i-test.true c.word.ensures c.if-word-c.false
 
 pub returns : goal.returns
-returns c = run_all c.args.pages.now c.loop-i.invariant c.loop-i-test.false
+returns c = omega (arith, run_all c.args.pages.now c.loop-i.invariant c.loop-i-test.false)

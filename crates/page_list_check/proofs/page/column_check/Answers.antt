@@ -3,7 +3,6 @@ use mathlib.Core.Path.{sym, ◌∙◌}
 use lib.ListN.{length}
 use Rattle.pages.proofs.PageLaws.{total_fits}
 use Rattle.page_list_check.proofs.PageLaws.{too_many_lem, counted}
-use borrow.Author.Rules.{rules}
 use native.Mathlib.Omega.{arith}
 use Rattle.page_list_check.proofs.page.column_check.Goals as goal
 

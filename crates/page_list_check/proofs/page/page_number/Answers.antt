@@ -1,9 +1,8 @@
 use Prim.Native.Nat.{◌^◌}
-use mathlib.Core.Path.{refl, sym, ◌∙◌}
+use mathlib.Core.Path.{refl}
 use borrow.Author.Tests.{lt-ltb, le-ltb}
 use Rattle.writing.specs.PageList.{page_word_piece, page_piece}
 use Rattle.writing.proofs.Items.{first_alone, first_nonzero}
-use borrow.Author.Rules.{rules}
 use native.Mathlib.Omega.{arith}
 use Rattle.page_list_check.proofs.page.page_number.Goals as goal
 

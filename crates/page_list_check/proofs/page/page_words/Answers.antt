@@ -1,5 +1,4 @@
 use mathlib.Core.Path.{refl}
-use borrow.Author.Rules.{rules}
 use Rattle.page_list_check.proofs.page.page_words.Goals as goal
 
 pub returns : goal.returns

@@ -1,6 +1,4 @@
-use Prim.Native.Nat.{◌-◌}
-use Rattle.page_list_check.proofs.PageLaws.{Tallied, tallied_none, tallied_few, tallied_more, tallied_refused, tallied_all}
-use borrow.Author.Rules.{rules}
+use Rattle.page_list_check.proofs.PageLaws.{tallied_none, tallied_few, tallied_more, tallied_refused, tallied_all}
 use native.Mathlib.Omega.{arith}
 use Rattle.page_list_check.proofs.page.pages_check.Goals as goal
 

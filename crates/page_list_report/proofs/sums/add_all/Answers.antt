@@ -1,9 +1,8 @@
-use Prim.Native.Nat.{ℕ, ◌-◌}
-use mathlib.Core.Path.{◌≡◌, refl, sym, ap, ◌∙◌}
+use Prim.Native.Nat.{ℕ}
+use mathlib.Core.Path.{refl, sym, ap, ◌∙◌}
 use mathlib.Core.List.{List}
 use native.Mathlib.Omega.{arith}
-use lib.ListN.{length, get_or, take, length-set}
-use Rattle.figure_rules.specs.Report.{added}
+use lib.ListN.{get_or, length-set}
 use Rattle.figure_rules.proofs.Adding.{added_none, added_rest, added_more, added_all, fits_at}
 use Rattle.page_list_report.proofs.sums.add_all.Goals as goal
 

@@ -1,9 +1,5 @@
-use Prim.Native.Nat.{◌-◌}
-use mathlib.Core.Path.{◌≡◌, sym}
-use mathlib.Core.Bool.{true}
+use mathlib.Core.Path.{sym}
 use native.Mathlib.Omega.{arith}
-use lib.ListN.{length, take}
-use Rattle.figure_rules.specs.Report.{sums_fit}
 use Rattle.figure_rules.proofs.Adding.{fits_none, fits_more, fits_all, fits_not}
 use Rattle.page_list_report.proofs.sums.all_fit.Goals as goal
 

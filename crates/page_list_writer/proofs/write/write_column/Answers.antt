@@ -3,7 +3,6 @@ use Rattle.writing.specs.Rows.{page_rows_in}
 use Rattle.page_list_check.proofs.Runs.{run_long}
 use Rattle.stores.proofs.Storing.{stored_list}
 use native.Mathlib.Omega.{arith}
-use borrow.Author.Rules.{rules}
 use Rattle.page_list_writer.proofs.write.write_column.Goals as goal
 
 pub overflow_sub-next : goal.overflow_sub-next

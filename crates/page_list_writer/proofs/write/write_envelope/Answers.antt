@@ -1,6 +1,5 @@
 use Rattle.stores.proofs.Storing.{stored_then}
 use Rattle.stores.proofs.Sealing.{sealed_over}
-use borrow.Author.Rules.{rules}
 use Rattle.page_list_writer.proofs.write.write_envelope.Goals as goal
 
 pub returns : goal.returns

@@ -1,7 +1,6 @@
 use Rattle.writing.specs.PageList.{page_word_piece, page_piece}
 use Rattle.stores.proofs.Storing.{stored_none, stored_then, stored_as_lem}
 use Rattle.page_list_writer.proofs.Bytes.{word_bytes}
-use borrow.Author.Rules.{rules}
 use Rattle.page_list_writer.proofs.write.write_page.Goals as goal
 
 pub returns : goal.returns

@@ -10,7 +10,6 @@ use Rattle.numbers.specs.Choice.{pick}
 use Rattle.numbers.specs.Numbers.{little, trailer}
 use Rattle.checksum.specs.Crc.{crc32}
 use Rattle.page_rules.specs.Page.{checksum_right}
-use borrow.Author.Rules.{rules}
 use Rattle.page_rules.proofs.answer.checksum_right.Goals as goal
 
 pub slice_bounds-crc32-end : goal.slice_bounds-crc32-end

@@ -4,8 +4,6 @@ use mathlib.Core.Bool.{true}
 use Prim.Native.Nat.{ℕ}
 use Rattle.column_type.specs.Types.{width_of}
 use Rattle.page_rules.proofs.Widths.{read_width_lem}
-use borrow.Author.Tests.{not-true, not-false}
-use borrow.Author.Rules.{rules}
 use Rattle.page_rules.specs.Page.{readable}
 use Rattle.page_rules.proofs.Decoding.{asked_23, asked_10, asked_passed}
 use Rattle.page_rules.proofs.answer.outside_answer.Goals as goal

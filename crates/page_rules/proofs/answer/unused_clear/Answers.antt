@@ -6,7 +6,6 @@ use native.Mathlib.Omega.{arith}
 use Rattle.numbers.specs.Numbers.{bytes_for}
 use Rattle.page_rules.proofs.Widths.{bit_type_lem, no_bit}
 use Rattle.page_rules.proofs.Decoding.{no_bits_above, clear_other, clear_whole, clear_byte}
-use borrow.Author.Rules.{rules}
 use Rattle.page_rules.proofs.answer.unused_clear.Goals as goal
 
 pub bounds-page-n : goal.bounds-page-n

@@ -4,7 +4,6 @@ use Rattle.page_rules.proofs.Laid.{one_up, largest_below, largest_above}
 use mathlib.Core.Path.{ap, ◌∙◌}
 use Prim.Native.Nat.{ℕ, ◌-◌}
 use native.Mathlib.Omega.{arith}
-use borrow.Author.Rules.{rules}
 use Rattle.page_rules.proofs.number.most.Goals as goal
 
 pub overflow_sub-result : goal.overflow_sub-result

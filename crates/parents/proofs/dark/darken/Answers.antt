@@ -2,21 +2,15 @@ use Prim.Native.Nat.{ℕ}
 use mathlib.Core.Path.{sym, subst}
 use native.Mathlib.Omega.{arith}
 use lib.ListN.{set}
-use Rattle.parents.proofs.Following.{blank, blank_less}
+use Rattle.parents.proofs.Following.{blank_less}
 use Rattle.parents.proofs.Darkening.{Climb, climb_starts, climb_goes, climb_ends}
 use Rattle.parents.proofs.dark.darken.Goals as goal
 
 pub loop-f-init : goal.loop-f-init
 loop-f-init c = climb_starts _ _ c.requires.inside _ _ c.requires.n_le_most_fields.1 c.requires.dark_marks
 
-pub bounds-marks-at : goal.bounds-marks-at
-bounds-marks-at c = let w = c.loop-f.invariant.here in omega arith
-
 pub returns-then-mark-ne0 : goal.returns-then-mark-ne0
 returns-then-mark-ne0 c = climb_ends _ _ c.requires.inside _ _ c.requires.n_le_most_fields.1 _ _ c.loop-f.invariant c.if-mark-ne0.true
-
-pub bounds-marks-at-in-loop-f : goal.bounds-marks-at-in-loop-f
-bounds-marks-at-in-loop-f c = let w = c.loop-f.invariant.here in omega arith
 
 pub parent_of-f-requires : goal.parent_of-f-requires
 parent_of-f-requires c = let w = c.loop-f.invariant.here in let p = c.requires.n_le_most_fields.0 in omega arith

@@ -1,9 +1,5 @@
-use Prim.Native.Nat.{ℕ}
-use mathlib.Core.Path.{sym, subst}
-use native.Mathlib.Omega.{arith}
-use lib.ListN.{set}
-use Rattle.parents.proofs.Following.{blank, blank_less}
-use Rattle.parents.proofs.Darkening.{Climb, climb_starts, climb_goes, climb_ends}
+use Rattle.parents.proofs.Following.{blank}
+use Rattle.parents.proofs.Darkening.{Climb}
 use Rattle.parents.proofs.dark.darken.Given as goal
 
 abbrev pub invariant-loop-f : goal.invariant-loop-f

@@ -1,5 +1,4 @@
 use mathlib.Core.Path.{sym}
-use borrow.Author.Rules.{rules}
 use Rattle.parents.proofs.dark.unknown_on.Goals as goal
 
 pub returns-then-is_known : goal.returns-then-is_known

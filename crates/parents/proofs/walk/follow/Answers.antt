@@ -5,7 +5,7 @@ use borrow.Author.Tests.{eq-eqb, ne_eqb}
 use lib.ListN.{set}
 use Rattle.numbers.proofs.Choice.{clash}
 use Rattle.parents.proofs.ChainLaws.{meets_here}
-use Rattle.parents.proofs.Following.{Walk, blank, blank_less, walk_starts, walk_goes, walk_ends, walk_loops}
+use Rattle.parents.proofs.Following.{Walk, blank_less, walk_starts, walk_goes, walk_ends, walk_loops}
 use Rattle.parents.proofs.walk.follow.Goals as goal
 
 pub loop-f-init : goal.loop-f-init
@@ -18,12 +18,6 @@ pub returns-then-up-f : goal.returns-then-up-f
 returns-then-up-f c = let r = walk_ends _ _ c.requires.inside _ _ c.requires.n_le_most_fields.1 _ c.loop-f.invariant (zero, meets_here _ _ zero _ (eq-eqb _ _ (sym c.parent_of-up.ensures ∙ c.if-up-f.true))) in
     record { value = sym r.0; marked_2 = λ _. r.1 }
 
-pub offset_bounds-marks-at : goal.offset_bounds-marks-at
-offset_bounds-marks-at c = let w = c.loop-f.invariant.here in omega arith
-
-pub bounds-marks-at : goal.bounds-marks-at
-bounds-marks-at c = let w = c.loop-f.invariant.here in omega arith
-
 pub returns-then-mark-stamp : goal.returns-then-mark-stamp
 returns-then-mark-stamp c = record { value = sym (walk_loops _ _ c.requires.inside _ _ c.requires.n_le_most_fields.1 _ c.loop-f.invariant c.if-mark-stamp.true); marked_2 = λ e. clash e refl }
 
@@ -31,12 +25,6 @@ pub returns-then-mark-ne0 : goal.returns-then-mark-ne0
 returns-then-mark-ne0 c = let w = c.loop-f.invariant in
     let r = walk_ends _ _ c.requires.inside _ _ c.requires.n_le_most_fields.1 _ w (w.old _ w.here c.if-mark-ne0.true c.if-mark-stamp.false) in
     record { value = sym r.0; marked_2 = λ _. r.1 }
-
-pub offset_bounds-marks-at-in-loop-f : goal.offset_bounds-marks-at-in-loop-f
-offset_bounds-marks-at-in-loop-f c = let w = c.loop-f.invariant.here in omega arith
-
-pub bounds-marks-at-in-loop-f : goal.bounds-marks-at-in-loop-f
-bounds-marks-at-in-loop-f c = let w = c.loop-f.invariant.here in omega arith
 
 pub loop-f-smaller : goal.loop-f-smaller
 loop-f-smaller c = let w = c.loop-f.invariant in

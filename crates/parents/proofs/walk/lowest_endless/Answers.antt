@@ -1,34 +1,30 @@
-use Prim.Native.Nat.{◌≤◌, ◌-◌}
 use mathlib.Core.Path.{◌≡◌, refl, sym, ◌∙◌}
 use native.Mathlib.Omega.{arith}
 use Rattle.rows.specs.Words.{most_fields}
 use Rattle.parents.specs.Parents.{endless}
-use Rattle.parents.specs.Marks.{Marked}
-use Rattle.parents.specs.declared.Chains.TheVariants.{AllEnd}
 use Rattle.parents.proofs.Following.{marked_none}
 use Rattle.parents.proofs.EndlessLaws.{endless_more, endless_found, endless_take}
-use borrow.Author.Rules.{rules}
 use Rattle.parents.proofs.walk.lowest_endless.Goals as goal
 
 pub loop-f-init : goal.loop-f-init
 unfolding endless
-loop-f-init c = (omega arith, refl, marked_none _ _ most_fields c.requires.n_le_most_fields)
+loop-f-init c = (refl, marked_none _ _ most_fields c.requires.n_le_most_fields)
 
 pub follow-requires : goal.follow-requires
 follow-requires c = let p = c.requires in
-    record { n_le_most_fields = (p.n_le_most_fields, c.loop-f-test.true, omega (arith, p.n_le_most_fields, c.well_formed)); inside = p.inside; marked = c.loop-f.invariant.2 }
+    record { n_le_most_fields = (p.n_le_most_fields, c.loop-f-test.true, omega (arith, p.n_le_most_fields, c.well_formed)); inside = p.inside; marked = c.loop-f.invariant.1 }
 
 pub loop-f-preserved : goal.loop-f-preserved
 loop-f-preserved c = let i = c.loop-f.invariant in
     let e = c.follow.ensures in
-    (omega arith, endless_more _ _ _ i.1 (sym e.value ∙ c.if-follow.true), e.marked_2 c.if-follow.true)
+    (endless_more _ _ _ i.0 (sym e.value ∙ c.if-not-follow.false), e.marked_2 c.if-not-follow.false)
 
-pub returns-else-follow : goal.returns-else-follow
-returns-else-follow c = let s = c.args in
-    sym (endless_found _ _ _ _ c.loop-f.invariant.1 (sym c.follow.ensures.value ∙ c.if-follow.false) c.loop-f-test.true)
+pub returns-then-not-follow : goal.returns-then-not-follow
+returns-then-not-follow c = let s = c.args in
+    sym (endless_found _ _ _ _ c.loop-f.invariant.0 (sym c.follow.ensures.value ∙ c.if-not-follow.true) c.loop-f-test.true)
     ∙ endless_take s.parents s.n c.requires.inside _ (omega arith)
 
 pub returns : goal.returns
 returns c = let s = c.args in
     let e : c.loop-f.f ≡ s.n = omega arith in
-    (rw e at (sym c.loop-f.invariant.1)) ∙ endless_take s.parents s.n c.requires.inside _ (omega arith)
+    (rw e at (sym c.loop-f.invariant.0)) ∙ endless_take s.parents s.n c.requires.inside _ (omega arith)

@@ -1,7 +1,7 @@
 -- `planes::pass::place_all` meets its contract: most of the plane, then the rest. Assumes nothing.
-use mathlib.Core.Path.{◌≡◌, sym, ap, ap₂, ◌∙◌, subst}
+use mathlib.Core.Path.{◌≡◌, ap, ap₂, ◌∙◌}
 use mathlib.Core.List.{List, ◌++◌}
-use Prim.Native.Nat.{ℕ, ◌*◌, ◌%◌, ◌^◌, ◌≤◌}
+use Prim.Native.Nat.{ℕ, ◌*◌, ◌%◌, ◌^◌, ◌≤◌, ◌<◌}
 use native.Mathlib.Omega.{arith}
 use lib.ListN.{length, take, drop, length-drop}
 use Rattle.planes.specs.Plane.{joined_by, with_byte}
@@ -16,25 +16,21 @@ use Rattle.planes.proofs.pass.place_all.Goals as goal
 abbrev join_by : ℕ → ℕ → ℕ → ℕ
 join_by u = joins u (others u)
 
+-- the unit as the code has it
+shift_fits : (p : ℕ) → p < 8 → 256 * (1 * 2 ^ (8 * p) % 2 ^ 64) ≤ 2 ^ 64
+shift_fits p h = rw (unit_is p h) (unit_fits p h)
+
 pub overflow_mul-keep : goal.overflow_mul-keep
-overflow_mul-keep c = let unit-at : 1 * 2 ^ (8 * c.args.p) % 2 ^ 64 ≡ 256 ^ c.args.p = unit_is c.args.p c.requires.0 in
-    let fits : 256 * (1 * 2 ^ (8 * c.args.p) % 2 ^ 64) ≤ 2 ^ 64 = subst (λ (u : ℕ). 256 * u ≤ 2 ^ 64) (sym (unit-at)) (unit_fits c.args.p c.requires.0) in
-    omega (arith, fits)
+overflow_mul-keep c = omega (arith, shift_fits c.args.p c.requires.0)
 
 pub overflow_sub-keep : goal.overflow_sub-keep
-overflow_sub-keep c = let unit-at : 1 * 2 ^ (8 * c.args.p) % 2 ^ 64 ≡ 256 ^ c.args.p = unit_is c.args.p c.requires.0 in
-    let fits : 256 * (1 * 2 ^ (8 * c.args.p) % 2 ^ 64) ≤ 2 ^ 64 = subst (λ (u : ℕ). 256 * u ≤ 2 ^ 64) (sym (unit-at)) (unit_fits c.args.p c.requires.0) in
-    omega (arith, fits)
+overflow_sub-keep c = omega (arith, shift_fits c.args.p c.requires.0)
 
 pub place_each-requires : goal.place_each-requires
-place_each-requires c = let unit-at : 1 * 2 ^ (8 * c.args.p) % 2 ^ 64 ≡ 256 ^ c.args.p = unit_is c.args.p c.requires.0 in
-    let fits : 256 * (1 * 2 ^ (8 * c.args.p) % 2 ^ 64) ≤ 2 ^ 64 = subst (λ (u : ℕ). 256 * u ≤ 2 ^ 64) (sym (unit-at)) (unit_fits c.args.p c.requires.0) in
-    let a = c.args in
+place_each-requires c = let a = c.args in
     let m = c.place_most-done in
-    let d : ℕ = m.result in
-    let mid : List ℕ = m.new.out in
-    let long : length mid ≡ length a.out.now = search rules in
-    (fits, rw (rest_of d a.plane.now, rest_of d mid) (omega (arith, length-drop d a.plane.now, length-drop d mid, c.requires.1, long)))
+    let long : length m.new.out ≡ length a.out.now = search rules in
+    (shift_fits a.p c.requires.0, rw (rest_of m.result a.plane.now, rest_of m.result m.new.out) (omega (arith, length-drop m.result a.plane.now, length-drop m.result m.new.out)))
 
 pub returns : goal.returns
 returns c = let unit-at : 1 * 2 ^ (8 * c.args.p) % 2 ^ 64 ≡ 256 ^ c.args.p = unit_is c.args.p c.requires.0 in
@@ -53,4 +49,4 @@ returns c = let unit-at : 1 * 2 ^ (8 * c.args.p) % 2 ^ 64 ≡ 256 ^ c.args.p = u
     ∙ ap₂ (λ (l : List ℕ) (v : ℕ). take d l ++ joined_by (join_by v) (drop d plane) (drop d l)) first (unit-at)
     ∙ joined_rest (join_by u) d plane old m.ensures.0 c.requires.1
     ∙ joined_same (join_by u) (with_byte 8 a.p) plane old
-    (λ i h l. joins_with_byte a.p _ _ c.requires.0 (omega (arith, c.type_inv.plane i)) (omega (arith, c.slice_known-1.given i)))
+    (λ i h l. joins_with_byte a.p _ _ c.requires.0 (omega (arith, c.type_inv.plane i)) (search rules))

@@ -1,7 +1,6 @@
 -- `same_field` meets its contract: the rows that were read are those of the tables.
 use mathlib.Core.Path.{refl}
 use Rattle.same_tables.proofs.Numbers.{field_is}
-use borrow.Author.Rules.{rules}
 use Rattle.same_tables.proofs.fields.same_field.Goals as goal
 
 pub returns-then-same_strings : goal.returns-then-same_strings

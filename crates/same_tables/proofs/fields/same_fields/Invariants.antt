@@ -1,13 +1,8 @@
 -- `same_fields` meets its contract: what is left of the rows decides.
-use Prim.Native.Nat.{◌≤◌, ◌-◌}
-use mathlib.Core.Path.{◌≡◌, sym, ◌∙◌}
-use native.Mathlib.Omega.{arith}
+use Prim.Native.Nat.{◌-◌}
+use mathlib.Core.Path.{◌≡◌}
 use Rattle.same_tables.specs.Same.{same_field, same_fields, all_from}
-use Rattle.same_tables.proofs.Numbers.{all_start, all_not, all_rest, all_end}
 use Rattle.same_tables.proofs.fields.same_fields.Given as goal
 
 abbrev pub invariant-loop-i : goal.invariant-loop-i
-invariant-loop-i l = (l.i ≤ l.count) × (same_fields l.old l.f l.new l.g l.count ≡ all_from (same_field l.old l.f l.new l.g) (l.count - l.i) l.i)
-
-abbrev pub decreases-loop-i : goal.decreases-loop-i
-decreases-loop-i l = l.count - l.i
+invariant-loop-i l = same_fields l.old l.f l.new l.g l.count ≡ all_from (same_field l.old l.f l.new l.g) (l.count - l.i) l.i

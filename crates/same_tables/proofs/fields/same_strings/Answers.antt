@@ -1,6 +1,5 @@
 -- `same_strings` meets its contract: each test decides, or the next does.
 use Rattle.same_tables.specs.Same.{same_strings}
-use borrow.Author.Rules.{rules}
 use Rattle.same_tables.proofs.fields.same_strings.Goals as goal
 
 pub returns-then-same_texts-3 : goal.returns-then-same_texts-3

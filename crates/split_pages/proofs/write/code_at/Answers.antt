@@ -3,22 +3,13 @@ use Rattle.std.proofs.Common.{◌∙◌}
 use Rattle.split_pages.proofs.Codes.{delta_first, delta_later, zigzag_place, same_place}
 use Rattle.split_pages.proofs.write.code_at.Goals as goal
 
-pub difference-requires : goal.difference-requires
-difference-requires c = c.requires.0.of_delta c.if-delta.true
-
 pub returns-then-i-eq0 : goal.returns-then-i-eq0
 returns-then-i-eq0 c = let a = c.args in
     c.difference.ensures ∙ delta_first a.zigzag a.width a.words.now a.delta a.i c.if-delta.true c.if-i-eq0.true c.requires.1
 
-pub difference-requires-then-delta : goal.difference-requires-then-delta
-difference-requires-then-delta c = c.requires.0.of_delta c.if-delta.true
-
 pub returns-then-delta : goal.returns-then-delta
 returns-then-delta c = let a = c.args in
     c.difference-then-delta.ensures ∙ delta_later a.zigzag a.width a.words.now a.delta a.i c.if-delta.true c.if-i-eq0.false c.requires.1
-
-pub zigzag-requires : goal.zigzag-requires
-zigzag-requires c = c.requires.0.of_split
 
 pub returns-then-zigzag : goal.returns-then-zigzag
 returns-then-zigzag c = let a = c.args in
