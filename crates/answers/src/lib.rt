@@ -11,8 +11,8 @@ ghost use Rattle.page_list.specs.Tables.{outcome_of as pageListOutcome};
 ghost use Rattle.page_rules.specs.Page.{outcome_of as page_outcome};
 ghost use Rattle.answers.specs.Results.{header_result};
 
-use footer::FooterAnswer;
-use header::HeaderAnswer;
+use footer::{FooterAnswer, FooterCounts};
+use header::{HeaderAnswer, Refusal};
 use moves::MovesAnswer;
 use page_list::PageListAnswer;
 use page_rules::PageAnswer;
@@ -26,7 +26,7 @@ pub fn tell_header(answer: HeaderAnswer, res: &mut [u64]) -> u32
     ensures leaves { res.new ≡ put res.old 0 (header_result (texts_of answer) (headerOutcome answer)) }
 {
     match answer {
-        HeaderAnswer::Accepted(tables) => {
+        Ok(tables) => {
             let texts = tables.texts;
             let name = texts.name;
             let description = texts.description;
@@ -42,7 +42,7 @@ pub fn tell_header(answer: HeaderAnswer, res: &mut [u64]) -> u32
             rows::put_words(res, 0, &words);
             0
         }
-        HeaderAnswer::Refused(number) => {
+        Err(number) => {
             rows::put_words(res, 0, &[0; 7]);
             256 + number as u32
         }
@@ -55,11 +55,11 @@ pub fn tell_moves(answer: MovesAnswer, res: &mut [u64]) -> u32
     ensures leaves { res.new ≡ put res.old 0 (movesOutcome answer).counts }
 {
     match answer {
-        MovesAnswer::Moves(total) => {
+        Ok(total) => {
             rows::put_words(res, 0, &[total]);
             0
         }
-        MovesAnswer::Refused(number) => {
+        Err(number) => {
             rows::put_words(res, 0, &[0; 1]);
             256 + number as u32
         }
@@ -72,11 +72,11 @@ pub fn tell_footer(answer: FooterAnswer, res: &mut [u64]) -> u32
     ensures leaves { res.new ≡ put res.old 0 (footerOutcome answer).counts }
 {
     match answer {
-        FooterAnswer::Accepted { clusters, metadata } => {
+        Ok(FooterCounts { clusters, metadata }) => {
             rows::put_words(res, 0, &[clusters as u64, metadata as u64]);
             0
         }
-        FooterAnswer::Refused(envelope, number) => {
+        Err(Refusal { envelope, number }) => {
             rows::put_words(res, 0, &[0; 2]);
             256 * (envelope as u32) + number as u32
         }
@@ -89,11 +89,11 @@ pub fn tell_page_list(answer: PageListAnswer, res: &mut [u64]) -> u32
     ensures leaves { res.new ≡ put res.old 0 (pageListOutcome answer).counts }
 {
     match answer {
-        PageListAnswer::Accepted { pages } => {
+        Ok(pages) => {
             rows::put_words(res, 0, &[pages as u64]);
             0
         }
-        PageListAnswer::Refused(envelope, number) => {
+        Err(Refusal { envelope, number }) => {
             rows::put_words(res, 0, &[0; 1]);
             256 * (envelope as u32) + number as u32
         }
@@ -106,11 +106,11 @@ pub fn tell_page(answer: PageAnswer, res: &mut [u64]) -> u32
     ensures leaves { res.new ≡ put res.old 0 (page_outcome answer).counts }
 {
     match answer {
-        PageAnswer::Accepted(count) => {
+        Ok(count) => {
             rows::put_words(res, 0, &[count as u64]);
             0
         }
-        PageAnswer::Refused(number) => {
+        Err(number) => {
             rows::put_words(res, 0, &[0; 1]);
             1024 + number as u32
         }

@@ -27,6 +27,7 @@ pub fn read_full<R: Read>(reader: &mut R, buffer: &mut [u8]) -> io::Result<usize
     ensures { ReadsAtMost result buffer.new }
 {
     let mut done = 0;
+    // No `for`: the place moves on by what a read brought.
     while done < buffer.len() {
         let count = reader.read(&mut buffer[done..])?;
         if count == 0 {

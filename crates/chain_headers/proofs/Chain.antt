@@ -14,7 +14,6 @@ use Rattle.chain_moves.specs.Moves.{all_moves}
 use Rattle.chain_moves.specs.Distances.{chain_of}
 use Rattle.chain_moves.proofs.Distances.{chains_reach_cap}
 use Rattle.header.specs.Tables.{parents_of}
-use Rattle.moves.specs.declared.MovesAnswer.TheVariants.{Moves}
 use Rattle.moves.proofs.Laws.{answer_found}
 use Rattle.tree.specs.Bytes.{spelled}
 use Rattle.tree.specs.EnvelopeTree.{unsummed, sealed}
@@ -25,6 +24,7 @@ use Rattle.tree.proofs.Place.{length_spelled}
 use Rattle.tree.proofs.Writing.{list_long, one_word, standard_content, standard_keeps}
 use Rattle.tree.proofs.HeaderLaws.{header_complete, parents_same}
 use Rattle.chain_headers.specs.Chain.{plain_field, chain_content, chain_header, CapReached}
+use Rattle.std.specs.Prelude.{Ok}
 
 -- the parents of plain fields
 plain_parents : (ps : List ℕ) → parents_in (map plain_field ps) ≡ ps
@@ -133,4 +133,4 @@ cap_reached n few r call =
     let parents : parents_of h.header.lists.fields ≡ chain_of n
     = parents_same (chain_header n) h.header.lists.fields ∙ ap (λ (c : HeaderContent). parents_in c.fields) h.means
     ∙ ap (λ (c : PayloadContent). parents_in c.tables.fields) (standard_content (chain_content n)) ∙ plain_parents (chain_of n) in
-    call.answers ∙ answer_found h.reads ∙ ap Moves (ap all_moves parents ∙ (chains_reach_cap n).reached)
+    call.answers ∙ answer_found h.reads ∙ ap Ok (ap all_moves parents ∙ (chains_reach_cap n).reached)

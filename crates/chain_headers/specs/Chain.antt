@@ -4,10 +4,10 @@ use Rattle.rows.specs.Words.{most_fields}
 use Rattle.chain_moves.specs.Distances.{most_moves, chain_of}
 use Rattle.header.specs.Tables.{header_of}
 use Rattle.moves.specs.Moves.{Answered}
-use Rattle.moves.specs.declared.MovesAnswer.{MovesAnswer}
-use Rattle.moves.specs.declared.MovesAnswer.TheVariants.{Moves}
+use Rattle.moves.specs.Answer.{MovesAnswer}
 use Rattle.tree.specs.HeaderTree.{FieldContent, HeaderContent, render_header}
 use Rattle.tree.specs.Spelling.{standard}
+use Rattle.std.specs.Prelude.{Ok}
 
 -- a field with this parent, and else zeros and empty strings
 abbrev pub plain_field : ℕ → FieldContent
@@ -28,7 +28,7 @@ chain_header n = render_header (standard (chain_content n))
 -- For each number of fields that a header may have, such a header is accepted, and every call for it answers with n (n - 1) / 2: no
 -- smaller cap would do.
 abbrev pub CapReached : Type 0
-CapReached = (n : ℕ) → n ≤ most_fields → (r : MovesAnswer) → Answered (header_of (chain_header n)) r → r ≡ Moves (most_moves n)
+CapReached = (n : ℕ) → n ≤ most_fields → (r : MovesAnswer) → Answered (header_of (chain_header n)) r → r ≡ Ok (most_moves n)
 
 -- the bytes of three fields
 abbrev pub chain_of_three : List ℕ
@@ -42,4 +42,4 @@ chain_of_three =
 -- computed: these are the bytes, and the moves are 0, 1 and 2
 pub record ComputedChain : Type 0 where
   pub bytes : chain_header 3 ≡ chain_of_three
-  pub three : (r : MovesAnswer) → Answered (header_of chain_of_three) r → r ≡ Moves 3
+  pub three : (r : MovesAnswer) → Answered (header_of chain_of_three) r → r ≡ Ok 3

@@ -71,7 +71,7 @@ fn cluster_at(s: &[u8], carried: bool, at: usize, file: u64, sum: u64) -> Step<C
     ))
 }
 
-// A cluster in its record frame.
+// A cluster in its record frame. (The three steps of a record's frame: with the content as a closure they would be no fewer.)
 pub fn cluster_record(
     s: &[u8],
     carried: bool,

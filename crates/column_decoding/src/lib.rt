@@ -6,7 +6,7 @@ ghost use Rattle.column_type.specs.Types.{width_of, Marked};
 ghost use Rattle.page_rules.specs.Page.{outcome_of as singleOutcome};
 ghost use Rattle.column_rules.specs.Column.{outcome_of, column_page, page_outcome, page_decoded, whole_column};
 
-use column_rules::{COLUMN_PAGE_WORDS, ColumnAnswer, ColumnPage, MOST_COLUMN_PAGES};
+use column_rules::{COLUMN_PAGE_WORDS, ColumnAnswer, ColumnPage, MOST_COLUMN_PAGES, RefusedPage};
 use page_rules::PageAnswer;
 
 // Decodes the pages of a lent table, which lie in a lent part of a file, into the lent words: page after page from the first word on, without
@@ -17,7 +17,10 @@ pub fn decode_column(column_type: u16, pages: &[u64], file: &[u8], out: &mut [u6
 {
     let count = pages.len() / COLUMN_PAGE_WORDS;
     if MOST_COLUMN_PAGES < count {
-        return ColumnAnswer::Refused(10, MOST_COLUMN_PAGES);
+        return Err(RefusedPage {
+            number: 10,
+            page: MOST_COLUMN_PAGES,
+        });
     }
     let t = column_type as u64;
     let width = column_type::width_of(t);
@@ -25,15 +28,15 @@ pub fn decode_column(column_type: u16, pages: &[u64], file: &[u8], out: &mut [u6
     let mut start = 0;
     for i in 0..count {
         match decode_one(width, marks, page_at(pages, i), file, out, start) {
-            PageAnswer::Accepted(elements) => {
+            Ok(elements) => {
                 start += elements;
             }
-            PageAnswer::Refused(number) => {
-                return ColumnAnswer::Refused(number, i);
+            Err(number) => {
+                return Err(RefusedPage { number, page: i });
             }
         }
     }
-    ColumnAnswer::Decoded(count)
+    Ok(count)
 }
 
 // Row i of a table of pages; zeros where it has no such row whole.

@@ -16,6 +16,7 @@ use rows::{AliasRow, ColumnRow};
 use wire::Step;
 
 // A column in its record frame, where the header has `fields` fields.
+// (The three steps of a record's frame: with the content as a closure they would be no fewer.)
 pub fn column_record(s: &[u8], strict: bool, at: usize, fields: u64) -> Step<ColumnRow>
     ensures { as_step result ≡ record_of strict (column fields) s.now at }
 {

@@ -13,13 +13,14 @@ use Rattle.outcome.specs.Outcome.{Outcome, is_accepted}
 use Rattle.rows.specs.Tables.{rows_in, first_rows}
 use Rattle.rows.proofs.FirstRows.{rows_length}
 use Rattle.column_rules.specs.declared.ColumnPage.{ColumnPage}
-use Rattle.column_rules.specs.declared.ColumnAnswer.TheVariants.{Decoded, Refused}
+use Rattle.column_rules.specs.Answer.{ColumnAnswer}
 use Rattle.column_rules.specs.Column.{OutcomeTells, accept_all, refuse_at, column_page_width, column_page_of, column_page, column_pages, most_column_pages, Decoding, index_of, in_turn, whole_column}
 use Rattle.column_rules.specs.Statements.{AcceptsOr, in_column, Filled, BeforeRefused, RestUnseen, ColumnNumbers, NoPages, TooManyPages}
 use Rattle.column_rules.proofs.TurnLaws.{page_numbers}
 use Rattle.column_rules.proofs.Numbers.{PagesOr, turned}
 use Rattle.column_rules.proofs.Ends.{Stops, Ends, ends, all_left}
 use Rattle.rows.proofs.FrontRows.{first_take, first_same, rows_with, front_row}
+use Rattle.std.specs.Prelude.{Ok, Err}
 
 -- an acceptance is no refusal
 no_refusal : {A : Type 0} (pages k i : ℕ) → accept_all pages ≡ refuse_at k i → A
@@ -27,10 +28,11 @@ no_refusal pages k i e = let z : ◌≡◌ {A = ℕ} 0 4 = ap (λ (o : Outcome).
 
 pub outcome_tells : OutcomeTells
 unfolding OutcomeTells
-outcome_tells (Decoded m) (Decoded n) e = ap Decoded (ap (λ (o : Outcome). get_or o.counts 0 0) e)
-outcome_tells (Decoded m) (Refused k i) e = no_refusal m k i e
-outcome_tells (Refused k i) (Decoded m) e = no_refusal m k i (sym e)
-outcome_tells (Refused k i) (Refused l j) e = ap₂ Refused (ap (λ (o : Outcome). o.number) e) (ap (λ (o : Outcome). get_or o.counts 0 0) e)
+outcome_tells (Ok m) (Ok n) e = ap Ok (ap (λ (o : Outcome). get_or o.counts 0 0) e)
+outcome_tells (Ok m) (Err why) e = no_refusal m why.number why.page e
+outcome_tells (Err why) (Ok m) e = no_refusal m why.number why.page (sym e)
+outcome_tells (Err why) (Err other) e =
+    ap₂ {A = ℕ} {B = ℕ} {C = ColumnAnswer} (λ (k i : ℕ). Err (record { number = k; page = i })) (ap (λ (o : Outcome). o.number) e) (ap (λ (o : Outcome). get_or o.counts 0 0) e)
 
 -- few pages are decoded in turn
 pub few_pages : (t : ℕ) (file table old : List ℕ) → rows_in column_page_width table ≤ most_column_pages → whole_column t file table old ≡ in_turn t file (column_pages table) 0 0 old

@@ -1,5 +1,5 @@
 -- A column's pages, decoded in turn by one call: what it answers, and what it leaves in the lent words.
-use Rattle.std.specs.Prelude.{ℕ, suc, ◌+◌, List, [], ◌∷◌, Bool, ◌≡◌, length, get_or, take, drop, leb, eqb}
+use Rattle.std.specs.Prelude.{ℕ, suc, ◌+◌, List, [], ◌∷◌, Bool, ◌≡◌, length, get_or, take, drop, leb, eqb, Ok, Err}
 use Rattle.numbers.specs.Choice.{pick}
 use Rattle.numbers.specs.Numbers.{trailer}
 use Rattle.outcome.specs.Outcome.{Outcome, accepted_with, is_accepted}
@@ -7,8 +7,7 @@ use Rattle.rows.specs.Tables.{rows_in, row_words, first_rows}
 use Rattle.locator.specs.Locator.{in_file}
 use Rattle.page_rules.specs.Page.{unless, asked, asks, decode_outcome, decoded}
 use Rattle.column_rules.specs.declared.ColumnPage.{ColumnPage}
-use Rattle.column_rules.specs.declared.ColumnAnswer.{ColumnAnswer}
-use Rattle.column_rules.specs.declared.ColumnAnswer.TheVariants.{Decoded, Refused}
+use Rattle.column_rules.specs.Answer.{ColumnAnswer}
 
 -- the count of a column call: its pages, or the index of the refused page. Here, and in no other call, a refusal has a count
 
@@ -19,8 +18,8 @@ abbrev pub refuse_at : ℕ → ℕ → Outcome
 refuse_at k i = record { envelope = 4; number = k; counts = i ∷ [] }
 
 abbrev pub outcome_of : ColumnAnswer → Outcome
-outcome_of (Decoded pages) = accept_all pages
-outcome_of (Refused k i) = refuse_at k i
+outcome_of (Ok pages) = accept_all pages
+outcome_of (Err why) = refuse_at why.number why.page
 
 -- an answer is told by what it says
 unfoldable pub OutcomeTells : Type 0

@@ -1,13 +1,15 @@
 // What decoding a column's pages in one call answers. Its rule is in specs/.
 #![tactic(auto)]
 
+// The page of a column that is refused: the number of the rule, and its index; the envelope is 4.
 #[derive(Clone, Copy)]
-pub enum ColumnAnswer {
-    // How many pages were decoded: all of them.
-    Decoded(usize),
-    // The number, and the index of the page that is refused; the envelope is 4.
-    Refused(u16, usize),
+pub struct RefusedPage {
+    pub number: u16,
+    pub page: usize,
 }
+
+// How many pages were decoded, all of them, or the refusal of one.
+pub type ColumnAnswer = Result<usize, RefusedPage>;
 
 // A page of a column, in a lent part of a file: where its bytes start, how many they are without those of a checksum, its elements, and
 // whether a checksum follows.

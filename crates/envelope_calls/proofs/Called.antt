@@ -10,28 +10,25 @@ use Rattle.outcome.specs.Outcome.{code_of}
 use Rattle.header.specs.Header.{Header}
 use Rattle.header.specs.Beside.{Beside}
 use Rattle.header.specs.Tables.{Answered, texts_of, outcome_of as headerOutcome}
-use Rattle.header.specs.declared.HeaderAnswer.{HeaderAnswer}
-use Rattle.header.specs.declared.HeaderAnswer.TheVariants.{Accepted as HeaderAccepted, Refused as HeaderRefused}
+use Rattle.header.specs.Answer.{HeaderAnswer}
 use Rattle.moves.specs.Moves.{Answered as AnsweredMoves, outcome_of as movesOutcome}
-use Rattle.moves.specs.declared.MovesAnswer.{MovesAnswer}
-use Rattle.moves.specs.declared.MovesAnswer.TheVariants.{Moves, Refused as MovesRefused}
+use Rattle.moves.specs.Answer.{MovesAnswer}
 use Rattle.footer.specs.Footer.{Footer}
 use Rattle.footer.specs.Tables.{Answered as AnsweredFooter, outcome_of as footerOutcome}
-use Rattle.footer.specs.declared.FooterAnswer.{FooterAnswer}
-use Rattle.footer.specs.declared.FooterAnswer.TheVariants.{Accepted as FooterAccepted, Refused as FooterRefused}
+use Rattle.footer.specs.Answer.{FooterAnswer}
 use Rattle.page_list.specs.Tables.{Answered as AnsweredPageList, outcome_of as pageListOutcome}
-use Rattle.page_list.specs.declared.PageListAnswer.{PageListAnswer}
-use Rattle.page_list.specs.declared.PageListAnswer.TheVariants.{Accepted as PageListAccepted, Refused as PageListRefused}
+use Rattle.page_list.specs.Answer.{PageListAnswer}
 use Rattle.answers.specs.Results.{header_result}
 use Rattle.answers.specs.Handed.{short_result}
 use Rattle.answers.proofs.HandedLaws.{given_room, given_short, hands_nothing, hands_over_lem, tells}
 use Rattle.envelope_calls.specs.Calls.{HeaderCall, MovesCall, FooterCall, PageListCall}
+use Rattle.std.specs.Prelude.{Ok, Err}
 
 -- Headers.
 
 header_words : (r : HeaderAnswer) → length (header_result (texts_of r) (headerOutcome r)) ≡ 7
-header_words (HeaderAccepted t) = refl
-header_words (HeaderRefused n) = refl
+header_words (Ok t) = refl
+header_words (Err n) = refl
 
 pub header_short : (x : Step Header) (f c a w : List ℕ) → length w < 7 → HeaderCall x f f c c a a w w short_result
 header_short x f c a w short =
@@ -56,8 +53,8 @@ header_called {w₀ = w₀} {r = r} fits left is stored =
 -- Moves.
 
 moves_words : (r : MovesAnswer) → length (movesOutcome r).counts ≡ 1
-moves_words (Moves total) = refl
-moves_words (MovesRefused number) = refl
+moves_words (Ok total) = refl
+moves_words (Err number) = refl
 
 pub moves_short : (x : Step Header) (w : List ℕ) → length w < 1 → MovesCall x w w short_result
 moves_short x w short = hands_nothing 1 _ _ w short
@@ -69,8 +66,8 @@ moves_called {r = r} fits left is stored = tells 1 fits (moves_words r) left.rep
 -- Footers.
 
 footer_words : (r : FooterAnswer) → length (footerOutcome r).counts ≡ 2
-footer_words (FooterAccepted clusters metadata) = refl
-footer_words (FooterRefused envelope number) = refl
+footer_words (Ok counts) = refl
+footer_words (Err why) = refl
 
 pub footer_short : (x : Beside Footer) (c m w : List ℕ) → length w < 2 → FooterCall x c c m m w w short_result
 footer_short x c m w short =
@@ -88,8 +85,8 @@ footer_called {w₀ = w₀} {r = r} fits left is stored =
 -- Page lists.
 
 page_list_words : (r : PageListAnswer) → length (pageListOutcome r).counts ≡ 1
-page_list_words (PageListAccepted pages) = refl
-page_list_words (PageListRefused envelope number) = refl
+page_list_words (Ok pages) = refl
+page_list_words (Err why) = refl
 
 pub page_list_short : (x : Beside (List (List PageRow))) (p w : List ℕ) → length w < 1 → PageListCall x p p w w short_result
 page_list_short x p w short = record { hands_over = hands_nothing 1 _ _ w short; pages_are = given_short 1 w _ _ short }

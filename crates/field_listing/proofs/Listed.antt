@@ -24,10 +24,10 @@ use Rattle.moves.proofs.Laws.{field_count_lem, header_rooted}
 use Rattle.listing.specs.Order.{Entry, order, order_of}
 use Rattle.listing.specs.Lines.{entry_line, row_in, dark_in, marked, listing}
 use Rattle.listing.specs.Answers.{fitted, placed, answer, left, outcome_of, Answered}
-use Rattle.listing.specs.declared.ListAnswer.{ListAnswer}
-use Rattle.listing.specs.declared.ListAnswer.TheVariants.{Refused}
+use Rattle.listing.specs.Answer.{ListAnswer}
 use Rattle.listing.proofs.Front.{order_front}
 use Rattle.listing.proofs.LineLaws.{lines_same}
+use Rattle.std.specs.Prelude.{Err}
 
 -- a line is told by the row and the mark of its field
 line_same : (e : List ℕ) {row row' : ℕ → FieldRow} {d d' : ℕ → Bool} {n : ℕ} → ((k : ℕ) → k < n → row k ≡ row' k) → ((k : ℕ) → d k ≡ d' k)
@@ -38,7 +38,7 @@ line_same e rows marks x l = rw (rows x.field l, marks x.field)
 answered : (e : List ℕ) {out out' : List ℕ} {r : ListAnswer} → r ≡ answer (length out) e (header_of e) → out' ≡ left out e (header_of e) → Answered e out out' r
 answered e is bytes = record { answers = is; reports = ap outcome_of is; bytes_are = bytes }
 
-pub refused_answer : (e : List ℕ) {g : Fault} (out : List ℕ) → header_of e ≡ refused g → Answered e out out (Refused g.number)
+pub refused_answer : (e : List ℕ) {g : Fault} (out : List ℕ) → header_of e ≡ refused g → Answered e out out (Err g.number)
 unfolding answer left
 refused_answer e out w = answered e (rw w) (rw w)
 

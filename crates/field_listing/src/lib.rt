@@ -34,7 +34,7 @@ pub fn list_fields(envelope: &[u8], out: &mut [u8]) -> ListAnswer
             let marks = parents::dark_marks(&parents, n, &column_rows, lists.columns);
             list_rows(envelope, &parents, n, &field_rows, &marks, out)
         }
-        Err(f) => ListAnswer::Refused(f.number),
+        Err(f) => Err(f.number),
     }
 }
 

@@ -52,6 +52,7 @@ pub fn list_children(
     }
     let mut row = at;
     let mut k = links[LINK_NUMBERS * above + FIRST] as usize;
+    // No `for`: the next child is the one that the links name.
     while k < n {
         row = list_field(links, n, left - 1, level, k, entries, row);
         k = links[LINK_NUMBERS * k + NEXT] as usize;

@@ -14,6 +14,7 @@ use rows::FieldRow;
 use wire::Step;
 
 // A field in its record frame, where the header has `fields` fields.
+// (The three steps of a record's frame: with the content as a closure they would be no fewer.)
 pub fn field_record(s: &[u8], strict: bool, at: usize, fields: u64) -> Step<FieldRow>
     ensures { as_step result ≡ record_of strict (field fields) s.now at }
 {

@@ -7,23 +7,22 @@ use Rattle.numbers.specs.Rows.{put}
 use Rattle.outcome.specs.Outcome.{code_of}
 use Rattle.header.specs.Beside.{Beside}
 use Rattle.rows.specs.declared.PageRow.{PageRow}
-use Rattle.figure_rules.specs.declared.ReportAnswer.{ReportAnswer}
-use Rattle.figure_rules.specs.declared.ReportAnswer.TheVariants.{Added, Refused}
+use Rattle.figure_rules.specs.Answer.{ReportAnswer}
 use Rattle.figure_rules.specs.Report.{outcome_of}
-use Rattle.true_count.specs.declared.CountAnswer.{CountAnswer}
-use Rattle.true_count.specs.declared.CountAnswer.TheVariants.{Counted, Refused as CountRefused}
+use Rattle.true_count.specs.Answer.{CountAnswer}
 use Rattle.true_count.specs.True.{outcome_of as countOutcomeOf}
 use Rattle.answers.specs.Handed.{short_result}
 use Rattle.answers.proofs.HandedLaws.{given_room, given_short, hands_nothing, tells}
 use Rattle.figure_calls.specs.Calls.{reported_after, ReportCall}
+use Rattle.std.specs.Prelude.{Ok, Err}
 
 report_words : (r : ReportAnswer) → length (outcome_of r).counts ≡ 2
-report_words (Added counts) = refl
-report_words (Refused envelope number counts) = refl
+report_words (Ok counts) = refl
+report_words (Err why) = refl
 
 pub count_words : (r : CountAnswer) → length (countOutcomeOf r).counts ≡ 1
-count_words (Counted count) = refl
-count_words (CountRefused number) = refl
+count_words (Ok count) = refl
+count_words (Err number) = refl
 
 module _ (x : Beside (List (List PageRow))) (accepted refused : ℕ) where
   pub report_short : (o w : List ℕ) → length w < 2 → ReportCall x accepted refused o o w w short_result

@@ -2,7 +2,6 @@
 use Rattle.std.specs.Prelude.{ℕ, List, ◌≡◌}
 use Rattle.header.specs.Beside.{Beside}
 use Rattle.rows.specs.declared.PageRow.{PageRow}
-use Rattle.figure_rules.specs.declared.ListCounts.{ListCounts}
 use Rattle.figure_rules.specs.Report.{Report, outcome_of, reported}
 use Rattle.answers.specs.Handed.{given, Tells}
 

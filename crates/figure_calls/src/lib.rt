@@ -59,13 +59,14 @@ fn tell_report(answer: ReportAnswer, res: &mut [u64]) -> u32
     ensures leaves { res.new ≡ put res.old 0 (reportOutcome answer).counts }
 {
     match answer {
-        ReportAnswer::Added(counts) => {
+        Ok(counts) => {
             rows::put_words(res, 0, &[counts.accepted, counts.refused]);
             0
         }
-        ReportAnswer::Refused(envelope, number, counts) => {
+        Err(why) => {
+            let counts = why.lists;
             rows::put_words(res, 0, &[counts.accepted, counts.refused]);
-            256 * envelope as u32 + number as u32
+            256 * why.envelope as u32 + why.number as u32
         }
     }
 }
@@ -75,11 +76,11 @@ fn tell_count(answer: CountAnswer, res: &mut [u64]) -> u32
     ensures leaves { res.new ≡ put res.old 0 (countOutcomeOf answer).counts }
 {
     match answer {
-        CountAnswer::Counted(count) => {
+        Ok(count) => {
             rows::put_words(res, 0, &[count]);
             0
         }
-        CountAnswer::Refused(number) => {
+        Err(number) => {
             rows::put_words(res, 0, &[0]);
             1024 + number as u32
         }

@@ -9,8 +9,8 @@ use Rattle.rows.specs.declared.PageRow.{PageRow}
 use Rattle.page_list.specs.Tables.{page_list_beside}
 use Rattle.refusals.specs.Refusals.{among, in_header, in_page_list, of_beside, Told}
 use Rattle.figure_rules.specs.declared.ListCounts.{ListCounts}
-use Rattle.figure_rules.specs.declared.ReportAnswer.TheVariants.{Added, Refused}
 use Rattle.figure_rules.specs.Report.{outcome_of, Named, figure_width, list_figures, added, Report, not_counted, one_accepted, one_refused, reported}
+use Rattle.std.specs.Prelude.{Ok, Err}
 
 -- the report's own numbers: 10 for a list too many or a figure past 64 bits, 20 for too few rows
 abbrev pub in_report : List ℕ
@@ -19,9 +19,9 @@ in_report = 10 ∷ 20 ∷ []
 -- All that a call can leave, by what its reader found: a list that was read is added; one that is refused, by its header's envelope or its own, is one
 -- more refused; the report's own refusals are counted nowhere. Words change only where a list is added.
 pub data Left (x : Beside (List (List PageRow))) (counts : ListCounts) (old : List ℕ) : Report → Type 0 where
-  adds : {pss : List (List PageRow)} → x ≡ read pss → Left x counts old (record { answer = Added (one_accepted counts); words = added (list_figures pss) old })
-  header_refused : {f : Fault} → x ≡ refusal 1 f → among in_header f.number ≡ true → Left x counts old (record { answer = Refused 1 f.number (one_refused counts); words = old })
-  list_refused : {f : Fault} → x ≡ refusal 3 f → among in_page_list f.number ≡ true → Left x counts old (record { answer = Refused 3 f.number (one_refused counts); words = old })
+  adds : {pss : List (List PageRow)} → x ≡ read pss → Left x counts old (record { answer = Ok (one_accepted counts); words = added (list_figures pss) old })
+  header_refused : {f : Fault} → x ≡ refusal 1 f → among in_header f.number ≡ true → Left x counts old (record { answer = Err (record { envelope = 1; number = f.number; lists = one_refused counts }); words = old })
+  list_refused : {f : Fault} → x ≡ refusal 3 f → among in_page_list f.number ≡ true → Left x counts old (record { answer = Err (record { envelope = 3; number = f.number; lists = one_refused counts }); words = old })
   turned_away : {r : ℕ} → among in_report r ≡ true → Left x counts old (not_counted r counts old)
 
 unfoldable pub ReportLeft : Type 0
@@ -51,7 +51,7 @@ row_words h = figure_width * length h.lists.columns
 -- What stays of a report: its length; with a refusal every word; and always the words beyond the rows of the header's columns.
 pub record Stays (header old : List ℕ) (r : Report) : Type 0 where
   pub long : length r.words ≡ length old
-  pub refused : (k n : ℕ) (c : ListCounts) → r.answer ≡ Refused k n c → r.words ≡ old
+  pub refused : (k n : ℕ) (c : ListCounts) → r.answer ≡ Err (record { envelope = k; number = n; lists = c }) → r.words ≡ old
   pub beyond : (h : Header) (p : ℕ) → header_of header ≡ found h p → drop (row_words h) r.words ≡ drop (row_words h) old
 
 unfoldable pub ReportStays : Type 0

@@ -9,8 +9,8 @@ use lib.ListN.{length}
 use Rattle.header.specs.Beside.{Beside}
 use Rattle.rows.specs.declared.PageRow.{PageRow}
 use Rattle.figure_rules.specs.declared.ListCounts.{ListCounts}
-use Rattle.figure_rules.specs.declared.ReportAnswer.TheVariants.{Added}
 use Rattle.figure_rules.specs.Report.{figure_width, added, sums_fit, not_counted, one_accepted, placed, taken, most_lists, reported}
+use Rattle.std.specs.Prelude.{Ok}
 
 -- the figures of so many columns
 module _ (columns : ℕ) (figures : List ℕ) (counts : ListCounts) (old : List ℕ) where
@@ -23,7 +23,7 @@ module _ (columns : ℕ) (figures : List ℕ) (counts : ListCounts) (old : List 
     unfolding placed
     placed_past e = rw (le-leb columns (length old / figure_width) enough, e)
 
-    pub placed_added : sums_fit figures old ≡ true → placed columns figures counts old ≡ record { answer = Added (one_accepted counts); words = added figures old }
+    pub placed_added : sums_fit figures old ≡ true → placed columns figures counts old ≡ record { answer = Ok (one_accepted counts); words = added figures old }
     unfolding placed
     placed_added e = rw (le-leb columns (length old / figure_width) enough, e)
 

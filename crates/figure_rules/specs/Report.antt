@@ -8,8 +8,8 @@ use Rattle.rows.specs.Words.{bit}
 use Rattle.rows.specs.declared.PageRow.{PageRow}
 use Rattle.pages.specs.Pages.{elements_of}
 use Rattle.figure_rules.specs.declared.ListCounts.{ListCounts}
-use Rattle.figure_rules.specs.declared.ReportAnswer.{ReportAnswer}
-use Rattle.figure_rules.specs.declared.ReportAnswer.TheVariants.{Added, Refused}
+use Rattle.figure_rules.specs.Answer.{ReportAnswer}
+use Rattle.std.specs.Prelude.{Ok, Err}
 
 -- the answer in document 01's terms. Its counts are the lists accepted and refused so far, handed over whatever the answer
 
@@ -17,13 +17,13 @@ abbrev pub counts_of : ListCounts → List ℕ
 counts_of c = c.accepted ∷ c.refused ∷ []
 
 abbrev pub outcome_of : ReportAnswer → Outcome
-outcome_of (Added c) = accepted_with (counts_of c)
-outcome_of (Refused k r c) = record { envelope = k; number = r; counts = counts_of c }
+outcome_of (Ok c) = accepted_with (counts_of c)
+outcome_of (Err why) = record { envelope = why.envelope; number = why.number; counts = counts_of why.lists }
 
 -- a refusal names an envelope; envelopes are numbered from 1
 abbrev pub Named : ReportAnswer → Type 0
-Named (Added c) = Unit {0}
-Named (Refused k r c) = 1 ≤ k
+Named (Ok c) = Unit {0}
+Named (Err why) = 1 ≤ why.envelope
 
 -- two answers that say the same are the same
 unfoldable pub OutcomeTells : Type 0
@@ -72,7 +72,7 @@ pub record Report : Type 0 where
 
 -- a refusal that is counted nowhere, in the page list's envelope
 abbrev pub not_counted : ℕ → ListCounts → List ℕ → Report
-not_counted r counts old = record { answer = Refused 3 r counts; words = old }
+not_counted r counts old = record { answer = Err (record { envelope = 3; number = r; lists = counts }); words = old }
 
 -- one list more, accepted or refused
 
@@ -87,14 +87,14 @@ unfoldable pub placed : ℕ → List ℕ → ListCounts → List ℕ → Report
 placed columns figures counts old =
     pick (rows_for (length old) columns)
     (pick (sums_fit figures old)
-    (record { answer = Added (one_accepted counts); words = added figures old })
+    (record { answer = Ok (one_accepted counts); words = added figures old })
     (not_counted 10 counts old))
     (not_counted 20 counts old)
 
 -- a page list that was read beside its header; one that the reader refuses adds nothing and is counted apart
 unfoldable pub taken : Beside (List (List PageRow)) → ListCounts → List ℕ → Report
 taken (read pss) counts old = placed (length pss) (list_figures pss) counts old
-taken (refusal k f) counts old = record { answer = Refused k f.number (one_refused counts); words = old }
+taken (refusal k f) counts old = record { answer = Err (record { envelope = k; number = f.number; lists = one_refused counts }); words = old }
 
 abbrev pub most_lists : ℕ
 most_lists = 1024

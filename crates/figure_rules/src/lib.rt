@@ -8,14 +8,16 @@ pub struct ListCounts {
     pub refused: u64,
 }
 
-// The counts are those after the call.
+// A page list that is refused: its envelope, 1 or 3, the number of the rule, and the lists so far; the report is as it was.
 #[derive(Clone, Copy)]
-pub enum ReportAnswer {
-    // The figures of the list are in the report.
-    Added(ListCounts),
-    // The envelope, 1 or 3, and the number; the report is as it was.
-    Refused(u16, u16, ListCounts),
+pub struct RefusedReport {
+    pub envelope: u16,
+    pub number: u16,
+    pub lists: ListCounts,
 }
+
+// The lists so far, where the figures of the list are in the report, or a refusal.
+pub type ReportAnswer = Result<ListCounts, RefusedReport>;
 
 // The words of a row of a report, one row to a column: pages, elements, stored sizes, pages with a checksum.
 pub const FIGURE_WORDS: usize = 4;

@@ -10,13 +10,13 @@ use lib.ListN.{length, get_or, length-replicate, get_or-replicate}
 use Rattle.numbers.specs.Choice.{pick}
 use Rattle.header.specs.Beside.{Beside, read, refusal}
 use Rattle.rows.specs.declared.PageRow.{PageRow}
-use Rattle.figure_rules.specs.declared.ReportAnswer.TheVariants.{Added}
 use Rattle.figure_rules.specs.Report.{figure_width, list_figures, added, sums_fit, rows_for, Report, not_counted, one_accepted, placed, taken, most_lists, reported}
 use Rattle.figure_rules.proofs.Accepted.{SmallList, read_beside_lem}
 use Rattle.figure_rules.proofs.Adding.{added_length, added_at}
 use Rattle.figure_rules.proofs.Tests.{placed_short, placed_added, reported_taken}
 use Rattle.figure_sums.specs.Orders.{Given, read_beside, State, fresh, counts_in, in_order, share_of, accepted_by, refused_by, total, ExactSums}
 use Rattle.figure_sums.proofs.Bounds.{AtMost, zeros_most, figures_most, sums_fit_lem, added_most}
+use Rattle.std.specs.Prelude.{Ok}
 
 -- a state of a report of n words, with no word above what so many lists can have
 pub record Open (n : ℕ) (st : State) : Type 0 where
@@ -66,7 +66,7 @@ module _ (n : ℕ) (st : State) (o : Open n st) where
             let one : accepted_by n (read pss) ≡ 1 = rw e refl in
             let share : share_of n (read pss) ≡ list_figures pss = rw e in
             subst (Grows (read pss)) (sym (placed_added (length pss) (list_figures pss) st.counts st.words (omega (arith, leb-true (length pss) (n / figure_width) e)) (list_fits n st o (omega arith) columns pss small)))
-            (grows (read pss) (record { answer = Added (one_accepted st.counts); words = added (list_figures pss) st.words })
+            (grows (read pss) (record { answer = Ok (one_accepted st.counts); words = added (list_figures pss) st.words })
             (λ k. omega (arith, one, ap (λ (l : List ℕ). get_or l k 0) share, figures_most pss small.each k)) (omega (arith, one)) (omega arith) (ap (λ (l : List ℕ). added l st.words) (sym share)))
         by false e =
             let long = o.long in

@@ -5,7 +5,7 @@ use Rattle.header.specs.Beside.{Beside, read, refusal}
 use Rattle.rows.specs.declared.PageRow.{PageRow}
 use Rattle.pages.specs.Pages.{elements_of}
 use Rattle.page_list.specs.Tables.{page_list_beside}
-use Rattle.figure_rules.specs.declared.ReportAnswer.{ReportAnswer}
+use Rattle.figure_rules.specs.Answer.{ReportAnswer}
 use Rattle.figure_rules.specs.Report.{sizes_of, checksums_of, figure_width, rows_for, most_lists, reported}
 use Rattle.figure_sums.specs.Orders.{Given, read_beside, State, fresh, counts_in, in_order, total, Sums, Permutation}
 

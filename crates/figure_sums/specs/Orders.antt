@@ -5,9 +5,9 @@ use Rattle.header.specs.Beside.{Beside, read, refusal}
 use Rattle.rows.specs.declared.PageRow.{PageRow}
 use Rattle.page_list.specs.Tables.{page_list_beside}
 use Rattle.figure_rules.specs.declared.ListCounts.{ListCounts}
-use Rattle.figure_rules.specs.declared.ReportAnswer.{ReportAnswer}
-use Rattle.figure_rules.specs.declared.ReportAnswer.TheVariants.{Added, Refused}
+use Rattle.figure_rules.specs.Answer.{ReportAnswer}
 use Rattle.figure_rules.specs.Report.{Report, list_figures, rows_for, sums_fit, most_lists, reported}
+use Rattle.std.specs.Prelude.{Ok, Err}
 
 -- a page list that is handed in, with what its reader gets besides the header
 pub record Given : Type 0 where
@@ -29,8 +29,8 @@ fresh n = record { counts = record { accepted = 0; refused = 0 }; words = replic
 
 -- the counts that an answer hands over
 abbrev pub counts_in : ReportAnswer → ListCounts
-counts_in (Added c) = c
-counts_in (Refused k r c) = c
+counts_in (Ok c) = c
+counts_in (Err why) = why.lists
 
 -- one list more, by the definition that the call keeps; its counts go into the next call
 abbrev pub after : List ℕ → Given → State → State

@@ -1,7 +1,6 @@
 // What is printed: a line for each column, the counts of lists, and the lists that were refused.
 use figure_rules::FIGURE_WORDS;
 use figure_table::FigureRow;
-use header::HeaderAnswer;
 use rows::ColumnNumber;
 use std::io;
 
@@ -11,12 +10,12 @@ pub fn print(rt: &impl Print, header: &mut [u8], words: &[u64]) -> io::Result<()
     let mut columns = [0u64; rows::FULL_COLUMNS];
     let mut aliases = [0u64; rows::FULL_ALIASES];
     match header_reader::read_header(header, &mut fields, &mut columns, &mut aliases) {
-        HeaderAnswer::Accepted(tables) => {
+        Ok(tables) => {
             rt.println(" column   type    pages        elements    stored bytes checksums field")?;
             figure_table::make_printable(header);
             print_rows(rt, header, &fields, &columns, words, tables.columns as u64)
         }
-        HeaderAnswer::Refused(_) => Ok(()),
+        Err(_) => Ok(()),
     }
 }
 

@@ -5,11 +5,11 @@ use lib.ListN.{get_or}
 use Rattle.outcome.specs.Outcome.{RefusalTells}
 use Rattle.outcome.proofs.Outcomes.{refusal_tells}
 use Rattle.footer.specs.Statements.{OutcomeTells}
-use Rattle.footer.specs.declared.FooterAnswer.TheVariants.{Accepted, Refused}
+use Rattle.std.specs.Prelude.{Ok, Err}
 
 pub outcome_tells : OutcomeTells
 unfolding OutcomeTells RefusalTells
-outcome_tells (Accepted c m) (Accepted d n) _ _ e = λ j. Accepted (get_or (e j).counts 0 0) (get_or (e j).counts 1 0)
-outcome_tells (Accepted c m) (Refused k r) _ named e = absurd (refusal_tells k r 2 (c ∷ m ∷ []) named (sym e))
-outcome_tells (Refused k r) (Accepted c m) named _ e = absurd (refusal_tells k r 2 (c ∷ m ∷ []) named e)
-outcome_tells (Refused k r) (Refused l s) _ _ e = λ j. Refused (e j).envelope (e j).number
+outcome_tells (Ok counts) (Ok counts1) _ _ e = λ j. Ok (record { clusters = get_or (e j).counts 0 0; metadata = get_or (e j).counts 1 0 })
+outcome_tells (Ok counts) (Err why1) _ named e = absurd (refusal_tells why1.envelope why1.number 2 (counts.clusters ∷ counts.metadata ∷ []) named (sym e))
+outcome_tells (Err why) (Ok counts1) named _ e = absurd (refusal_tells why.envelope why.number 2 (counts1.clusters ∷ counts1.metadata ∷ []) named e)
+outcome_tells (Err why) (Err why1) _ _ e = λ j. Err (record { envelope = (e j).envelope; number = (e j).number })

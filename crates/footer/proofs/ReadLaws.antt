@@ -21,11 +21,11 @@ use Rattle.clusters.specs.Clusters.{cluster_list}
 use Rattle.footer.specs.Tables.{fitting, room_for, answer, written, beside_by_build, footer_beside, Answered}
 use Rattle.rows.specs.Words.{cluster_width, cluster_words, link_width, link_words}
 use Rattle.footer.specs.Answers.{Scanned, scanned_footer}
-use Rattle.footer.specs.declared.FooterAnswer.{FooterAnswer}
-use Rattle.footer.specs.declared.FooterAnswer.TheVariants.{Accepted, Refused}
+use Rattle.footer.specs.Answer.{FooterAnswer}
 use Rattle.footer.specs.declared.lists.FooterScan.{FooterScan}
+use Rattle.std.specs.Prelude.{Ok, Err}
 
-pub answered_refused : {x : Beside Footer} {k : ℕ} {f : Fault} (C M : List ℕ) → x ≡ refusal k f → Answered x C C M M (Refused k f.number)
+pub answered_refused : {x : Beside Footer} {k : ℕ} {f : Fault} (C M : List ℕ) → x ≡ refusal k f → Answered x C C M M (Err (record { envelope = k; number = f.number }))
 unfolding answer written
 answered_refused C M e = record { answers = rw e; reports = rw e; clusters_are = rw e; metadata_are = rw e }
 
@@ -35,7 +35,7 @@ module _ {checksum file : ℕ} {carried strict : Bool} {s : List ℕ} {scan : Fo
   room_is = rw (k.clusters_counted, k.metadata_counted)
 
   pub no_room : fitting (length C) (length M) scan.clusters scan.metadata ≡ false
-      → Answered (in_envelope 2 (whole strict (payload carried checksum file strict) s 4)) C C M M (Refused 2 20)
+      → Answered (in_envelope 2 (whole strict (payload carried checksum file strict) s 4)) C C M M (Err (record { envelope = 2; number = 20 }))
   unfolding answer written
   no_room r =
       let z = room_is ∙ r in
@@ -54,7 +54,7 @@ module _ {checksum file : ℕ} {carried strict : Bool} {s : List ℕ} {scan : Fo
     pub all_read : {C' M' : List ℕ}
         → C' ≡ over (flat cluster_words (rows_of (cluster_list carried strict file s scan.clusters_at))) C
         → M' ≡ over (flat link_words (rows_of (link_list strict file s scan.metadata_at))) M
-        → Answered (in_envelope 2 (whole strict (payload carried checksum file strict) s 4)) C C' M M' (Accepted scan.clusters scan.metadata)
+        → Answered (in_envelope 2 (whole strict (payload carried checksum file strict) s 4)) C C' M M' (Ok (record { clusters = scan.clusters; metadata = scan.metadata }))
     unfolding answer written
     all_read x y =
         let z = room_is ∙ r in

@@ -8,8 +8,8 @@ use Rattle.rows.specs.Words.{cluster_width, link_width, cluster_words, link_word
 use Rattle.header.specs.Tables.{header_of}
 use Rattle.header.specs.Beside.{Beside, read, refusal, beside}
 use Rattle.footer.specs.Footer.{Footer, this_build, footer_by_build}
-use Rattle.footer.specs.declared.FooterAnswer.{FooterAnswer}
-use Rattle.footer.specs.declared.FooterAnswer.TheVariants.{Accepted, Refused}
+use Rattle.footer.specs.Answer.{FooterAnswer}
+use Rattle.std.specs.Prelude.{Ok, Err}
 
 -- the footer read beside its header, by a build that knows versions up to `newest`: the header's refusal first
 unfoldable pub beside_by_build : ℕ → List ℕ → List ℕ → ℕ → Beside Footer
@@ -36,13 +36,13 @@ room_for c m f = fitting c m (length f.clusters) (length f.metadata)
 
 -- the whole answer, for lent tables of c and m words
 unfoldable pub answer : ℕ → ℕ → Beside Footer → FooterAnswer
-answer c m (read f) = pick (room_for c m f) (Accepted (length f.clusters) (length f.metadata)) (Refused 2 20)
-answer c m (refusal k f) = Refused k f.number
+answer c m (read f) = pick (room_for c m f) (Ok (record { clusters = length f.clusters; metadata = length f.metadata })) (Err (record { envelope = 2; number = 20 }))
+answer c m (refusal k f) = Err (record { envelope = k; number = f.number })
 
 -- what an answer says in document 01's terms: the envelope and the number of a refusal, and the counts of clusters and of metadata links
 abbrev pub outcome_of : FooterAnswer → Outcome
-outcome_of (Accepted clusters metadata) = accepted_with (clusters ∷ metadata ∷ [])
-outcome_of (Refused envelope number) = refused_in envelope number 2
+outcome_of (Ok counts) = accepted_with (counts.clusters ∷ counts.metadata ∷ [])
+outcome_of (Err why) = refused_in why.envelope why.number 2
 
 -- the outcome that is due, for lent tables of c and m words
 abbrev pub reported : ℕ → ℕ → Beside Footer → Outcome

@@ -6,9 +6,10 @@ ghost use Rattle.footer.specs.Footer.{payload};
 ghost use Rattle.footer.specs.Tables.{fitting, Answered};
 ghost use Rattle.footer.specs.Answers.{Scans};
 
-use crate::FooterAnswer;
 use crate::fill::{fill_cluster_list, fill_link_list};
 use crate::opening::opening_at;
+use crate::{FooterAnswer, FooterCounts};
+use header::Refusal;
 use wire::Fault;
 
 // Where a footer's lists stand, and how many items each has.
@@ -75,14 +76,20 @@ pub fn read_payload(
             if has_room(scan, clusters.len(), metadata.len()) {
                 fill_cluster_list(clusters, s, carried, strict, scan.clusters_at, file);
                 fill_link_list(metadata, s, strict, scan.metadata_at, file);
-                FooterAnswer::Accepted {
+                Ok(FooterCounts {
                     clusters: scan.clusters,
                     metadata: scan.metadata,
-                }
+                })
             } else {
-                FooterAnswer::Refused(2, 20)
+                Err(Refusal {
+                    envelope: 2,
+                    number: 20,
+                })
             }
         }
-        Err(f) => FooterAnswer::Refused(2, f.number),
+        Err(f) => Err(Refusal {
+            envelope: 2,
+            number: f.number,
+        }),
     }
 }

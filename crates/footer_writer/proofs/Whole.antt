@@ -18,13 +18,13 @@ use Rattle.writing.specs.Rows.{footer_rows}
 use Rattle.writing.specs.Footer.{carries_for, all_as_carried, footer_payload_piece, footer_piece}
 use Rattle.writing.specs.Answers.{Answered, footer_to_write}
 use Rattle.writing.specs.Promises.{FooterPromised}
-use Rattle.writing.specs.declared.WriteAnswer.{WriteAnswer}
-use Rattle.writing.specs.declared.WriteAnswer.TheVariants.{Written, Refused}
+use Rattle.writing.specs.Answer.{WriteAnswer}
 use Rattle.writing.proofs.FooterBack.{footer_promised}
 use Rattle.verdicts.specs.Length.{capped}
 use Rattle.verdicts.proofs.Capped.{capped_small}
 use Rattle.stores.specs.Stored.{InFront}
 use Rattle.stores.proofs.Answers.{roomless, wrote, header_found}
+use Rattle.std.specs.Prelude.{Ok, Err}
 
 -- a footer of which nothing is refused is no longer than an envelope may be
 footer_short : (checksum file : ℕ) (f : Footer) → (footer_piece checksum file f).number ≡ 0 → (footer_piece checksum file f).long ≤ ceiling
@@ -46,10 +46,10 @@ module _ (checksum file : ℕ) (clusters metadata out : List ℕ) where
     exact : long ≡ x.long
     exact = counted ∙ sym (capped_small x.long (footer_short checksum file (footer_rows clusters metadata) fine))
 
-    pub footer_roomless : length out < long → Answered 2 (read x) out out (Refused 2 20)
+    pub footer_roomless : length out < long → Answered 2 (read x) out out (Err (record { envelope = 2; number = 20 }))
     footer_roomless few = let e = exact in roomless 2 x out fine (omega arith)
 
-    pub footer_written : {out' : List ℕ} → long ≤ length out → InFront x out out' → Answered 2 (read x) out out' (Written long)
+    pub footer_written : {out' : List ℕ} → long ≤ length out → InFront x out out' → Answered 2 (read x) out out' (Ok long)
     unfolding FooterPromised
     footer_written {out'} enough stands =
         let e = exact in

@@ -10,6 +10,7 @@ ghost use Rattle.writing.specs.Rows.{footer_rows};
 ghost use Rattle.writing.specs.Footer.{footer_piece};
 ghost use Rattle.writing.specs.Answers.{Answered, footer_to_write};
 
+use header::Refusal;
 use writing::WriteAnswer;
 
 // Writes the footer of lent tables (5 words to a cluster, 2 to a metadata link) beside a header, and answers.
@@ -26,7 +27,10 @@ pub fn write_footer(
     let verdict = schema.verdict;
     match verdict {
         Ok(()) => { write_beside(schema.checksum, file_length, clusters, metadata, out) }
-        Err(f) => WriteAnswer::Refused(1, f.number),
+        Err(f) => Err(Refusal {
+            envelope: 1,
+            number: f.number,
+        }),
     }
 }
 
@@ -42,12 +46,18 @@ fn write_beside(
 {
     let number = footer_check::footer_number(checksum, file_length, clusters, metadata);
     if number != 0 {
-        return WriteAnswer::Refused(2, number);
+        return Err(Refusal {
+            envelope: 2,
+            number,
+        });
     }
     let long = footer_check::footer_long(clusters, metadata);
     if out.len() < long {
-        return WriteAnswer::Refused(2, 20);
+        return Err(Refusal {
+            envelope: 2,
+            number: 20,
+        });
     }
     write::write_envelope(checksum, clusters, metadata, out);
-    WriteAnswer::Written(long)
+    Ok(long)
 }

@@ -8,7 +8,7 @@ use Rattle.header.specs.Header.{Header}
 use Rattle.header.specs.Tables.{header_of}
 use Rattle.listing.specs.Lines.{listing}
 use Rattle.listing.specs.Answers.{fitted, placed, Answered}
-use Rattle.listing.specs.declared.ListAnswer.{ListAnswer}
+use Rattle.listing.specs.Answer.{ListAnswer}
 use Rattle.listing.proofs.CallLaws.{call_answers, call_leaves, call_listed}
 use Rattle.tree.specs.HeaderTree.{header_content}
 use Rattle.forward.specs.HeaderAppend.{field_count}

@@ -5,13 +5,13 @@ use mathlib.Core.Path.{◌≡◌, sym, ap, ◌∙◌}
 use Rattle.chain_moves.specs.Moves.{all_moves}
 use Rattle.header.specs.Header.{Header}
 use Rattle.header.specs.Tables.{header_of, parents_of}
-use Rattle.moves.specs.declared.MovesAnswer.TheVariants.{Moves}
 use Rattle.moves.proofs.Laws.{answer_found, answer_sum}
 use Rattle.tree.specs.HeaderTree.{HeaderContent, header_content, parents_in}
 use Rattle.tree.proofs.HeaderLaws.{parents_same}
 use Rattle.forward.specs.MovesForward.{MovesForward}
 use Rattle.forward.proofs.HeaderForward.{the_header, still_read}
 use Rattle.forward.proofs.Appending.{read_more}
+use Rattle.std.specs.Prelude.{Ok}
 
 -- the parents that a header's content has
 parents_content : (e : List ℕ) (h : Header) → parents_of h.lists.fields ≡ parents_in (header_content e h).fields
@@ -28,8 +28,8 @@ moves_forward e total bytes call =
       forward = λ new ch small r call'.
           let still = still_read e h q reads the new ch small in
           call'.answers ∙ answer_found still.reads
-          ∙ ap Moves (ap all_moves (parents_content _ still.header) ∙ ap (λ (c : HeaderContent). all_moves (parents_in c.fields)) still.contents ∙ sym sum);
+          ∙ ap Ok (ap all_moves (parents_content _ still.header) ∙ ap (λ (c : HeaderContent). all_moves (parents_in c.fields)) still.contents ∙ sym sum);
       append = λ fields columns a r call'.
           let more = read_more e h q reads the.tree the.right the.bytes fields columns a in
-          call'.answers ∙ answer_found more.reads ∙ ap Moves (ap all_moves (parents_content _ more.header) ∙ more.moves_are ∙ sym sum);
+          call'.answers ∙ answer_found more.reads ∙ ap Ok (ap all_moves (parents_content _ more.header) ∙ more.moves_are ∙ sym sum);
     }

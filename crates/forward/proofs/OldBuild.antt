@@ -27,14 +27,14 @@ use Rattle.links.specs.Links.{link, link_list}
 use Rattle.clusters.specs.Clusters.{list_checksum, starts_at, entry_count, cluster, entries_of, cluster_list}
 use Rattle.footer.specs.Footer.{Footer, this_build, first_build, carries, names, empty, payload, footer_by_build, footer_of}
 use Rattle.footer.specs.Tables.{beside_by_build, footer_beside, outcome_of, cluster_table, metadata_table}
-use Rattle.footer.specs.declared.FooterAnswer.{FooterAnswer}
-use Rattle.footer.specs.declared.FooterAnswer.TheVariants.{Accepted}
+use Rattle.footer.specs.Answer.{FooterAnswer}
 use Rattle.tree.proofs.Simple.{after_found}
 use Rattle.tree.proofs.Envelope.{Opened, opens, was_opened}
 use Rattle.tree.proofs.FooterCalls.{footer_left}
 use Rattle.tree.proofs.Accepted.{footer_read_lem}
 use Rattle.forward.specs.OldBuild.{old_cluster, old_payload, old_footer_of, FirstBuildIsOld, old_row, old_rows, OldBuildReads, old_width, old_words, old_table, old_room, old_answer, old_written, OldAnswered, without_checksums, OldBuildCalls}
 use Rattle.header.proofs.Besides.{both_read, both_read_is}
+use Rattle.std.specs.Prelude.{Ok, Err}
 
 -- the first build's rules are the old ones
 pub first_build_is_old : FirstBuildIsOld
@@ -193,12 +193,14 @@ rows_old (c ∷ cs) rest = ap (λ (w : List ℕ). old_words c ++ w) (rows_old cs
 table_old : (f : Footer) (c₀ c : List ℕ) (n : ℕ) → c ≡ over (cluster_table f) c₀ → n ≡ length f.clusters → old_table (old_rows f) ≡ without_checksums n c
 table_old f c₀ c n is count = rows_old f.clusters (drop (length (cluster_table f)) c₀) ∙ sym (λ i. without_checksums (count i) (is i))
 
-counts : {n k n' k' : ℕ} → Accepted n k ≡ Accepted n' k' → n ≡ n'
-counts e = cc
+-- the clusters that an answer counts
+abbrev clusters_in : FooterAnswer → ℕ
+clusters_in (Ok counts) = counts.clusters
+clusters_in (Err why) = 0
 
 -- a call of the first build that has room
 old_call : (x : Beside Footer) (f : Footer) (c₀ c m₀ m : List ℕ) (r : FooterAnswer) → x ≡ read f → old_room (length c₀) (length m₀) f ≡ true → OldAnswered x c₀ c m₀ m r
-    → (r ≡ Accepted (length f.clusters) (length f.metadata)) × (c ≡ over (old_table f) c₀) × (m ≡ over (metadata_table f) m₀)
+    → (r ≡ Ok (record { clusters = length f.clusters; metadata = length f.metadata })) × (c ≡ over (old_table f) c₀) × (m ≡ over (metadata_table f) m₀)
 unfolding old_answer old_written
 old_call x f c₀ c m₀ m r is room call =
     (call.answers ∙ ap (old_answer (length c₀) (length m₀)) is ∙ rw room refl, call.clusters_are ∙ ap (old_written old_table (length c₀) (length m₀) c₀) is ∙ rw room refl, call.metadata_are ∙ ap (old_written metadata_table (length c₀) (length m₀) m₀) is ∙ rw room refl)
@@ -207,11 +209,11 @@ pub old_build_calls : OldBuildCalls
 old_build_calls e g file c₀ c m₀ m clusters metadata call newer least d₀ d m' r roomy old =
     let k = footer_read_lem e g file (length c₀) (length m₀) (sym (ap (λ (y : FooterAnswer). is_accepted (outcome_of y)) call.answers)) in
     let f = k.footer in
-    let left = footer_left (footer_beside e g file) f c₀ c m₀ m (Accepted clusters metadata) k.is k.room call in
-    let count : clusters ≡ length f.clusters = counts left.answers in
+    let left = footer_left (footer_beside e g file) f c₀ c m₀ m (Ok (record { clusters = clusters; metadata = metadata })) k.is k.room call in
+    let count : clusters ≡ length f.clusters = ap clusters_in left.answers in
     let many : length (old_rows f).clusters ≡ length f.clusters = length-map f.clusters old_row in
     let few = le-leb (length (old_rows f).clusters) (length d₀ / old_width) (omega (arith, roomy, count, many)) in
     let (_, links) = both_true (leb (length f.clusters) (length c₀ / cluster_width)) (leb (length f.metadata) (length m₀ / link_width)) k.room in
     let room : old_room (length d₀) (length m₀) (old_rows f) ≡ true = rw (few, links) refl in
     let (answers, rows, metadata_are) = old_call (beside_by_build first_build e g file) (old_rows f) d₀ d m₀ m' r (old_build_reads e g file f k.is newer least) room old in
-    (answers ∙ ap (λ (n : ℕ). Accepted n (length f.metadata)) many ∙ sym left.answers, rows ∙ ap (λ (w : List ℕ). over w d₀) (table_old f c₀ c clusters left.clusters count), metadata_are ∙ sym left.metadata)
+    (answers ∙ ap (λ (n : ℕ). Ok (record { clusters = n; metadata = length f.metadata })) many ∙ sym left.answers, rows ∙ ap (λ (w : List ℕ). over w d₀) (table_old f c₀ c clusters left.clusters count), metadata_are ∙ sym left.metadata)

@@ -15,7 +15,7 @@ use Rattle.std.specs.Prelude.{None}
 use Rattle.page_list.specs.PageList.{totals_of, summed, page_list_of}
 use Rattle.page_list.specs.Tables.{page_list_beside, answer, outcome_of, written}
 use Rattle.rows.specs.declared.PageRow.{PageRow}
-use Rattle.page_list.specs.declared.PageListAnswer.{PageListAnswer}
+use Rattle.page_list.specs.Answer.{PageListAnswer}
 use Rattle.figure_rules.specs.Report.{reported}
 use Rattle.tree.specs.Bytes.{Bytes}
 use Rattle.tree.specs.EnvelopeTree.{unsummed}

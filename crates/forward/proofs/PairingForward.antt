@@ -12,17 +12,17 @@ use Rattle.rows.specs.Words.{no_checksum}
 use Rattle.rows.specs.declared.PageRow.{PageRow}
 use Rattle.header.specs.Beside.{Beside, read, refusal}
 use Rattle.page_list.specs.Tables.{page_list_beside, answer, Answered}
-use Rattle.page_list.specs.declared.PageListAnswer.{PageListAnswer}
-use Rattle.page_list.specs.declared.PageListAnswer.TheVariants.{Accepted}
+use Rattle.page_list.specs.Answer.{PageListAnswer}
 use Rattle.pairing.specs.Paired.{paired_beside}
 use Rattle.pairing.proofs.Pairs.{pairs}
 use Rattle.tree.specs.HeaderTree.{render_header}
 use Rattle.tree.specs.PageListTree.{render_page_list}
 use Rattle.forward.specs.PairingForward.{put_right, PairingForward}
 use Rattle.forward.proofs.PageListForward.{page_list_forward}
+use Rattle.std.specs.Prelude.{Ok}
 
 -- an accepting call read a page list
-listed : (n pages : ℕ) (x : Beside (List (List PageRow))) → Accepted pages ≡ answer n x → (rows : List (List PageRow)) × (x ≡ read rows)
+listed : (n pages : ℕ) (x : Beside (List (List PageRow))) → Ok pages ≡ answer n x → (rows : List (List PageRow)) × (x ≡ read rows)
 unfolding answer
 listed n pages (read rows) e = (rows, refl)
 listed n pages (refusal k f) e = let z : ◌≡◌ {A = ℕ} 0 1 = cc in absurd (omega arith)

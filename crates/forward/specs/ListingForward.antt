@@ -7,13 +7,13 @@ use Rattle.envelope.specs.Envelope.{ceiling}
 use Rattle.rows.specs.declared.ColumnRow.{ColumnRow}
 use Rattle.listing.specs.Lines.{line}
 use Rattle.listing.specs.Answers.{fitted, placed, Answered}
-use Rattle.listing.specs.declared.ListAnswer.{ListAnswer}
-use Rattle.listing.specs.declared.ListAnswer.TheVariants.{Listed}
+use Rattle.listing.specs.Answer.{ListAnswer}
 use Rattle.tree.specs.Bytes.{Bytes}
 use Rattle.tree.specs.Shape.{Framed}
 use Rattle.tree.specs.HeaderTree.{FieldContent, HeaderTree, render_header}
 use Rattle.forward.specs.HeaderForward.{ChosenHeader, TheHeader}
 use Rattle.forward.specs.HeaderAppend.{appended, field_count, Appendix}
+use Rattle.std.specs.Prelude.{Ok}
 
 -- Of these columns one is of unknown type and hangs on field k. For an appended field and the appended columns that is what `dark` is: these columns
 -- hang on appended fields only, each its own parent, so that none is below another (law `own-dark`, forward/proofs/Appending).
@@ -45,4 +45,4 @@ pub record ListingKept (e bytes : List ℕ) (n : ℕ) : Type 0 where
 
 -- Demand 3 for the listing: for every call that listed a header, whose bytes are the first n of those that it left.
 abbrev pub ListingForward : Type 0
-ListingForward = (e out₀ out : List ℕ) (n : ℕ) → Bytes e → Answered e out₀ out (Listed n) → ListingKept e (take n out) n
+ListingForward = (e out₀ out : List ℕ) (n : ℕ) → Bytes e → Answered e out₀ out (Ok n) → ListingKept e (take n out) n

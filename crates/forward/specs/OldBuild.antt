@@ -13,8 +13,8 @@ use Rattle.links.specs.Links.{link, link_list}
 use Rattle.clusters.specs.Clusters.{starts_at, entry_count, entries_of}
 use Rattle.footer.specs.Footer.{Footer, first_build, after_opening, footer_by_build}
 use Rattle.footer.specs.Tables.{beside_by_build, footer_beside, metadata_table, Answered}
-use Rattle.footer.specs.declared.FooterAnswer.{FooterAnswer}
-use Rattle.footer.specs.declared.FooterAnswer.TheVariants.{Accepted, Refused}
+use Rattle.footer.specs.Answer.{FooterAnswer}
+use Rattle.std.specs.Prelude.{Ok, Err}
 
 -- The rules as they were before the checksums, word for word (but that a row says that it has none).
 
@@ -66,8 +66,8 @@ abbrev pub old_room : ℕ → ℕ → Footer → Bool
 old_room c m f = both (leb (length f.clusters) (c / old_width)) (leb (length f.metadata) (m / link_width))
 
 unfoldable pub old_answer : ℕ → ℕ → Beside Footer → FooterAnswer
-old_answer c m (read f) = pick (old_room c m f) (Accepted (length f.clusters) (length f.metadata)) (Refused 2 20)
-old_answer c m (refusal k f) = Refused k f.number
+old_answer c m (read f) = pick (old_room c m f) (Ok (record { clusters = length f.clusters; metadata = length f.metadata })) (Err (record { envelope = 2; number = 20 }))
+old_answer c m (refusal k f) = Err (record { envelope = k; number = f.number })
 
 unfoldable pub old_written : (Footer → List ℕ) → ℕ → ℕ → List ℕ → Beside Footer → List ℕ
 old_written words c m old (read f) = pick (old_room c m f) (over (words f) old) old
@@ -88,7 +88,7 @@ without_checksums (suc n) table = take old_width table ++ without_checksums n (d
 -- for links and with room for as many of its rows, gives the same answer and leaves the same links, and its rows are this build's less the checksums.
 abbrev pub OldBuildCalls : Type 0
 OldBuildCalls =
-    (e g : List ℕ) (file : ℕ) (c₀ c m₀ m : List ℕ) (clusters metadata : ℕ) → Answered (footer_beside e g file) c₀ c m₀ m (Accepted clusters metadata)
+    (e g : List ℕ) (file : ℕ) (c₀ c m₀ m : List ℕ) (clusters metadata : ℕ) → Answered (footer_beside e g file) c₀ c m₀ m (Ok (record { clusters = clusters; metadata = metadata }))
     → 2 ≤ version_of g → little 2 g 2 ≡ 1
     → (d₀ d m' : List ℕ) (r : FooterAnswer) → clusters ≤ length d₀ / old_width → OldAnswered (beside_by_build first_build e g file) d₀ d m₀ m' r
-    → (r ≡ Accepted clusters metadata) × (d ≡ over (without_checksums clusters c) d₀) × (m' ≡ m)
+    → (r ≡ Ok (record { clusters = clusters; metadata = metadata })) × (d ≡ over (without_checksums clusters c) d₀) × (m' ≡ m)

@@ -5,14 +5,14 @@ use Rattle.envelope.specs.Envelope.{ceiling, checksum_of}
 use Rattle.rows.specs.Words.{no_checksum}
 use Rattle.column_pages.specs.ColumnPages.{bits_of}
 use Rattle.page_list.specs.Tables.{Answered}
-use Rattle.page_list.specs.declared.PageListAnswer.{PageListAnswer}
-use Rattle.page_list.specs.declared.PageListAnswer.TheVariants.{Accepted}
+use Rattle.page_list.specs.Answer.{PageListAnswer}
 use Rattle.pairing.specs.Paired.{paired_beside}
 use Rattle.tree.specs.Bytes.{Bytes}
 use Rattle.tree.specs.HeaderTree.{HeaderTree, render_header, tables_of}
 use Rattle.tree.specs.PageListTree.{PageListTree, render_page_list}
 use Rattle.forward.specs.HeaderForward.{ChosenHeader, TheHeader}
 use Rattle.forward.specs.ReadersForward.{ChosenPageList, ThePageList}
+use Rattle.std.specs.Prelude.{Ok}
 
 -- a row's copy of the checksum of this page list, put right; a row without one stays without
 abbrev pub put_right : ℕ → List ℕ → ℕ
@@ -33,4 +33,4 @@ pub record PairingKept (e l : List ℕ) (entries checksum file : ℕ) (p₀ p : 
 abbrev pub PairingForward : Type 0
 PairingForward =
     (e l : List ℕ) (entries checksum file : ℕ) (p₀ p : List ℕ) (pages : ℕ) → Bytes e → Bytes l
-    → Answered (paired_beside e l entries checksum file) p₀ p (Accepted pages) → PairingKept e l entries checksum file p₀ p (Accepted pages)
+    → Answered (paired_beside e l entries checksum file) p₀ p (Ok pages) → PairingKept e l entries checksum file p₀ p (Ok pages)

@@ -18,19 +18,15 @@ use Rattle.parents.specs.Parents.{meets, all_reach}
 use Rattle.parents.specs.Dark.{dark}
 use Rattle.header.specs.Tables.{header_of, answer, written, Answered}
 use Rattle.header.specs.declared.HeaderTables.{HeaderTables}
-use Rattle.header.specs.declared.HeaderAnswer.TheVariants.{Accepted}
 use Rattle.header.specs.Beside.{Beside}
 use Rattle.chain_moves.specs.Moves.{moves, total_moves, all_moves}
 use Rattle.moves.specs.Moves.{answer as moves-answer, Answered as AnsweredMoves}
-use Rattle.moves.specs.declared.MovesAnswer.{MovesAnswer}
-use Rattle.moves.specs.declared.MovesAnswer.TheVariants.{Moves}
+use Rattle.moves.specs.Answer.{MovesAnswer}
 use Rattle.footer.specs.Tables.{footer_beside, answer as footer-answer, written as footer_written, Answered as AnsweredFooter}
-use Rattle.footer.specs.declared.FooterAnswer.{FooterAnswer}
-use Rattle.footer.specs.declared.FooterAnswer.TheVariants.{Accepted as AcceptedFooter}
+use Rattle.footer.specs.Answer.{FooterAnswer}
 use Rattle.column_pages.specs.ColumnPages.{bits_of, pages_of}
 use Rattle.page_list.specs.Tables.{page_list_beside, answer as pages-answer, written as pages-written, Answered as AnsweredPages}
-use Rattle.page_list.specs.declared.PageListAnswer.{PageListAnswer}
-use Rattle.page_list.specs.declared.PageListAnswer.TheVariants.{Accepted as AcceptedPages}
+use Rattle.page_list.specs.Answer.{PageListAnswer}
 use Rattle.pairing.specs.Paired.{paired_beside}
 use Rattle.pairing.proofs.Pairs.{pairs}
 use Rattle.tree.specs.Bytes.{spelled, Bytes}
@@ -48,6 +44,7 @@ use Rattle.forward.specs.PairingForward.{put_right, PairingKept}
 use Rattle.forward.specs.MovesForward.{MovesKept}
 use Rattle.forward.proofs.Demand3.{demand_3}
 use Rattle.forward_examples.proofs.Extensible.{extensible, appendable}
+use Rattle.std.specs.Prelude.{Ok}
 
 -- the trees of the plain envelopes keep the rules
 
@@ -162,11 +159,11 @@ left_aliases = 0 ∷ 1 ∷ 9 ∷ []
 abbrev counted : ℕ → ℕ → HeaderTables
 counted fields columns = record { texts = plain_read.texts; fields = fields; columns = columns; aliases = 1 }
 
-plain_call : Answered (header_of (render_header plain_header)) lent_fields (left_fields 67) lent_columns left_columns lent_aliases left_aliases (Accepted (counted 2 2))
+plain_call : Answered (header_of (render_header plain_header)) lent_fields (left_fields 67) lent_columns left_columns lent_aliases left_aliases (Ok (counted 2 2))
 unfolding answer written field_words column_words alias_words flat flat_by dark known meets
 plain_call = rw extensible.header_reads (record { answers = refl; reports = refl; reports_texts = refl; fields_are = refl; columns_are = refl; aliases_are = refl })
 
-pub newer_call : Answered (header_of (render_header newer_header)) lent_fields (left_fields 69) lent_columns left_columns lent_aliases left_aliases (Accepted (counted 2 2))
+pub newer_call : Answered (header_of (render_header newer_header)) lent_fields (left_fields 69) lent_columns left_columns lent_aliases left_aliases (Ok (counted 2 2))
 unfolding answer written field_words column_words alias_words flat flat_by dark known meets
 newer_call = rw extensible.newer_header_reads (record { answers = refl; reports = refl; reports_texts = refl; fields_are = refl; columns_are = refl; aliases_are = refl })
 
@@ -178,7 +175,7 @@ more_fields_lem = field_row_lem 30 0 0 1 ++ field_row_lem 67 0 2 1 ++ field_row_
 abbrev more_columns_lem : List ℕ
 more_columns_lem = 1 ∷ 64 ∷ 0 ∷ 0 ∷ 99 ∷ 5 ∷ 1 ∷ 0 ∷ 1 ∷ 64 ∷ 2 ∷ 0 ∷ []
 
-pub appended_call : Answered (header_of (render_header appended_header)) (replicate 47 5) more_fields_lem (replicate 12 5) more_columns_lem (replicate 2 5) (0 ∷ 1 ∷ []) (Accepted (counted 3 3))
+pub appended_call : Answered (header_of (render_header appended_header)) (replicate 47 5) more_fields_lem (replicate 12 5) more_columns_lem (replicate 2 5) (0 ∷ 1 ∷ []) (Ok (counted 3 3))
 unfolding answer written field_words column_words alias_words flat flat_by dark known meets
 appended_call = rw appendable.appended_reads (record { answers = refl; reports = refl; reports_texts = refl; fields_are = refl; columns_are = refl; aliases_are = refl })
 
@@ -195,43 +192,43 @@ chosen_header h = subst (λ (t : HeaderTree). ChosenHeader t newer_header) (the_
 header_kept : HeaderKept (render_header plain_header) lent_fields (left_fields 67) lent_columns left_columns lent_aliases left_aliases (counted 2 2)
 header_kept = demand_3.header (render_header plain_header) lent_fields (left_fields 67) lent_columns left_columns lent_aliases left_aliases (counted 2 2) plain_bytes plain_call
 
-pub newer_kept : SameAnswer (render_header plain_header) (left_fields 67) left_columns left_aliases (counted 2 2) (render_header newer_header) (left_fields 69) left_columns left_aliases (Accepted (counted 2 2))
+pub newer_kept : SameAnswer (render_header plain_header) (left_fields 67) left_columns left_aliases (counted 2 2) (render_header newer_header) (left_fields 69) left_columns left_aliases (Ok (counted 2 2))
 newer_kept =
-    header_kept.forward newer_header (chosen_header header_kept.header) (omega (arith, extensible.newer_header_bytes)) (left_fields 69) left_columns left_aliases (Accepted (counted 2 2)) newer_call
+    header_kept.forward newer_header (chosen_header header_kept.header) (omega (arith, extensible.newer_header_bytes)) (left_fields 69) left_columns left_aliases (Ok (counted 2 2)) newer_call
 
 -- an appended field with its column: the call keeps the earlier rows
 
 append_kept : AppendKept (render_header plain_header) (left_fields 67) left_columns left_aliases (counted 2 2)
 append_kept = demand_3.append (render_header plain_header) lent_fields (left_fields 67) lent_columns left_columns lent_aliases left_aliases (counted 2 2) plain_bytes plain_call
 
-pub appended_kept : KeepsRows (render_header plain_header) (left_fields 67) left_columns left_aliases (counted 2 2) 1 1 (render_header appended_header) more_fields_lem more_columns_lem (0 ∷ 1 ∷ []) (Accepted (counted 3 3))
+pub appended_kept : KeepsRows (render_header plain_header) (left_fields 67) left_columns left_aliases (counted 2 2) 1 1 (render_header appended_header) more_fields_lem more_columns_lem (0 ∷ 1 ∷ []) (Ok (counted 3 3))
 appended_kept =
     let appends = subst (λ (t : HeaderTree). Appends (render_header plain_header) (left_fields 67) left_columns left_aliases (counted 2 2) t) (sym (the_plain append_kept.header)) append_kept.append in
-    appends appended_fields appended_columns appendable.appendix (replicate 47 5) _ (replicate 12 5) _ (replicate 2 5) _ (Accepted (counted 3 3)) (omega arith) (omega arith) (omega arith) appended_call
+    appends appended_fields appended_columns appendable.appendix (replicate 47 5) _ (replicate 12 5) _ (replicate 2 5) _ (Ok (counted 3 3)) (omega arith) (omega arith) (omega arith) appended_call
 
 -- the moves: "b" is one below "a", and a call for any of the three headers counts this one
 
-plain_moves_call : AnsweredMoves (header_of (render_header plain_header)) (Moves 1)
+plain_moves_call : AnsweredMoves (header_of (render_header plain_header)) (Ok 1)
 unfolding moves-answer all_moves total_moves moves
 plain_moves_call = rw extensible.header_reads (record { answers = refl; reports = refl })
 
-pub newer_moves_call : AnsweredMoves (header_of (render_header newer_header)) (Moves 1)
+pub newer_moves_call : AnsweredMoves (header_of (render_header newer_header)) (Ok 1)
 unfolding moves-answer all_moves total_moves moves
 newer_moves_call = rw extensible.newer_header_reads (record { answers = refl; reports = refl })
 
-pub appended_moves_call : AnsweredMoves (header_of (render_header appended_header)) (Moves 1)
+pub appended_moves_call : AnsweredMoves (header_of (render_header appended_header)) (Ok 1)
 unfolding moves-answer all_moves total_moves moves
 appended_moves_call = rw appendable.appended_reads (record { answers = refl; reports = refl })
 
 moves_kept : MovesKept (render_header plain_header) 1
 moves_kept = demand_3.moves (render_header plain_header) 1 plain_bytes plain_moves_call
 
-pub newer_moves_kept : (r : MovesAnswer) → AnsweredMoves (header_of (render_header newer_header)) r → r ≡ Moves 1
+pub newer_moves_kept : (r : MovesAnswer) → AnsweredMoves (header_of (render_header newer_header)) r → r ≡ Ok 1
 newer_moves_kept = moves_kept.forward newer_header (chosen_header moves_kept.header) (omega (arith, extensible.newer_header_bytes))
 
-pub appended_moves_kept : (r : MovesAnswer) → AnsweredMoves (header_of (render_header appended_header)) r → r ≡ Moves 1
+pub appended_moves_kept : (r : MovesAnswer) → AnsweredMoves (header_of (render_header appended_header)) r → r ≡ Ok 1
 appended_moves_kept =
-    let appends = subst (λ (t : HeaderTree). Appendix t appended_fields appended_columns → (r : MovesAnswer) → AnsweredMoves (header_of (render_header (appended t appended_fields appended_columns))) r → r ≡ Moves 1) (sym (the_plain moves_kept.header)) (moves_kept.append appended_fields appended_columns) in
+    let appends = subst (λ (t : HeaderTree). Appendix t appended_fields appended_columns → (r : MovesAnswer) → AnsweredMoves (header_of (render_header (appended t appended_fields appended_columns))) r → r ≡ Ok 1) (sym (the_plain moves_kept.header)) (moves_kept.append appended_fields appended_columns) in
     appends appendable.appendix
 
 -- footers: there is a call for the newer header and the newer footer, and each gives the same answer and leaves the same tables, but for the checksum
@@ -249,20 +246,20 @@ lent_links = replicate 3 9
 abbrev left_links : List ℕ
 left_links = 7 ∷ 0 ∷ 9 ∷ []
 
-plain_footer_call : AnsweredFooter (footer_beside (render_header plain_header) (render_footer plain_footer) 140) lent_clusters (left_clusters no_checksum) lent_links left_links (AcceptedFooter 1 1)
+plain_footer_call : AnsweredFooter (footer_beside (render_header plain_header) (render_footer plain_footer) 140) lent_clusters (left_clusters no_checksum) lent_links left_links (Ok (record { clusters = 1; metadata = 1 }))
 unfolding footer-answer footer_written flat
 plain_footer_call = rw extensible.footer_reads (record { answers = refl; reports = refl; clusters_are = refl; metadata_are = refl })
 
-pub newer_footer_call : AnsweredFooter (footer_beside (render_header newer_header) (render_footer newer_footer) 140) lent_clusters (left_clusters list_checksum) lent_links left_links (AcceptedFooter 1 1)
+pub newer_footer_call : AnsweredFooter (footer_beside (render_header newer_header) (render_footer newer_footer) 140) lent_clusters (left_clusters list_checksum) lent_links left_links (Ok (record { clusters = 1; metadata = 1 }))
 unfolding footer-answer footer_written flat
 newer_footer_call = rw extensible.newer_footer_reads (record { answers = refl; reports = refl; clusters_are = refl; metadata_are = refl })
 
-footer_kept : FooterKept (render_header plain_header) (render_footer plain_footer) 140 lent_clusters (left_clusters no_checksum) lent_links left_links (AcceptedFooter 1 1)
+footer_kept : FooterKept (render_header plain_header) (render_footer plain_footer) 140 lent_clusters (left_clusters no_checksum) lent_links left_links (Ok (record { clusters = 1; metadata = 1 }))
 footer_kept =
     demand_3.footer (render_header plain_header) (render_footer plain_footer) 140 lent_clusters (left_clusters no_checksum) lent_links left_links 1 1 plain_bytes plain_footer_bytes plain_footer_call
 
 pub newer_footer_kept : (c m : List ℕ) (r : FooterAnswer) → AnsweredFooter (footer_beside (render_header newer_header) (render_footer newer_footer) 140) lent_clusters c lent_links m r
-    → (r ≡ AcceptedFooter 1 1) × (c ≡ left_clusters list_checksum) × (m ≡ left_links)
+    → (r ≡ Ok (record { clusters = 1; metadata = 1 })) × (c ≡ left_clusters list_checksum) × (m ≡ left_links)
 unfolding with_checksums
 newer_footer_kept c m r call =
     let tree = footer_kept.footer.only plain_footer plain_footer_right refl in
@@ -279,15 +276,15 @@ lent_pages = replicate 11 9
 abbrev left_pages : List ℕ
 left_pages = 0 ∷ 3 ∷ 0 ∷ 24 ∷ 50 ∷ 1 ∷ 3 ∷ 1 ∷ 2 ∷ 74 ∷ 9 ∷ []
 
-plain_page_list_call : AnsweredPages (page_list_beside (render_header plain_header) (render_page_list plain_page_list) 3 80) lent_pages left_pages (AcceptedPages 2)
+plain_page_list_call : AnsweredPages (page_list_beside (render_header plain_header) (render_page_list plain_page_list) 3 80) lent_pages left_pages (Ok 2)
 unfolding pages-answer pages-written flat pages_of
 plain_page_list_call = rw extensible.page_list_reads (record { answers = refl; reports = refl; pages_are = refl })
 
-pub newer_page_list_call : AnsweredPages (page_list_beside (render_header newer_header) (render_page_list newer_page_list) 3 80) lent_pages left_pages (AcceptedPages 2)
+pub newer_page_list_call : AnsweredPages (page_list_beside (render_header newer_header) (render_page_list newer_page_list) 3 80) lent_pages left_pages (Ok 2)
 unfolding pages-answer pages-written flat pages_of
 newer_page_list_call = rw extensible.newer_page_list_reads (record { answers = refl; reports = refl; pages_are = refl })
 
-page_list_kept : PageListKept (render_header plain_header) (render_page_list plain_page_list) 3 80 lent_pages left_pages (AcceptedPages 2)
+page_list_kept : PageListKept (render_header plain_header) (render_page_list plain_page_list) 3 80 lent_pages left_pages (Ok 2)
 page_list_kept =
     demand_3.page_list (render_header plain_header) (render_page_list plain_page_list) 3 80 lent_pages left_pages 2 plain_bytes plain_page_list_bytes plain_page_list_call
 
@@ -298,7 +295,7 @@ chosen_list h l =
     subst (λ (u : PageListTree). ChosenPageList u newer_page_list) (l.only plain_page_list right refl) extensible.page_list
 
 pub newer_page_list_kept : (p : List ℕ) (r : PageListAnswer) → AnsweredPages (page_list_beside (render_header newer_header) (render_page_list newer_page_list) 3 80) lent_pages p r
-    → (r ≡ AcceptedPages 2) × (p ≡ left_pages)
+    → (r ≡ Ok 2) × (p ≡ left_pages)
 newer_page_list_kept =
     page_list_kept.forward newer_header newer_page_list (chosen_header page_list_kept.header) (chosen_list page_list_kept.header page_list_kept.page_list) (omega (arith, extensible.newer_header_bytes)) (omega (arith, extensible.newer_page_list_bytes))
 
@@ -307,12 +304,12 @@ newer_page_list_kept =
 abbrev plain_checksum_lem : ℕ
 plain_checksum_lem = checksum_of (render_page_list plain_page_list)
 
-plain_pairing_call : AnsweredPages (paired_beside (render_header plain_header) (render_page_list plain_page_list) 3 plain_checksum_lem 80) lent_pages left_pages (AcceptedPages 2)
+plain_pairing_call : AnsweredPages (paired_beside (render_header plain_header) (render_page_list plain_page_list) 3 plain_checksum_lem 80) lent_pages left_pages (Ok 2)
 plain_pairing_call =
     let same = pairs.its (render_header plain_header) (render_page_list plain_page_list) 3 80 in
-    subst (λ (x : Beside (List (List PageRow))). AnsweredPages x lent_pages left_pages (AcceptedPages 2)) (sym same) plain_page_list_call
+    subst (λ (x : Beside (List (List PageRow))). AnsweredPages x lent_pages left_pages (Ok 2)) (sym same) plain_page_list_call
 
-pairing_kept : PairingKept (render_header plain_header) (render_page_list plain_page_list) 3 plain_checksum_lem 80 lent_pages left_pages (AcceptedPages 2)
+pairing_kept : PairingKept (render_header plain_header) (render_page_list plain_page_list) 3 plain_checksum_lem 80 lent_pages left_pages (Ok 2)
 pairing_kept =
     demand_3.pairing (render_header plain_header) (render_page_list plain_page_list) 3 plain_checksum_lem 80 lent_pages left_pages 2 plain_bytes plain_page_list_bytes plain_pairing_call
 
@@ -321,7 +318,7 @@ unfolding little sealed unsummed page_list_shape pages_shape page_shape spelled 
 put_right_lem = refl
 
 pub newer_pairing_kept : (p : List ℕ) (r : PageListAnswer) → AnsweredPages (paired_beside (render_header newer_header) (render_page_list newer_page_list) 3 list_checksum 80) lent_pages p r
-    → (r ≡ AcceptedPages 2) × (p ≡ left_pages)
+    → (r ≡ Ok 2) × (p ≡ left_pages)
 newer_pairing_kept p r call =
     let copied = subst (λ (n : ℕ). AnsweredPages (paired_beside (render_header newer_header) (render_page_list newer_page_list) 3 n 80) lent_pages p r) (sym put_right_lem) call in
     pairing_kept.forward newer_header newer_page_list (chosen_header pairing_kept.header) (chosen_list pairing_kept.header pairing_kept.page_list) (omega (arith, extensible.newer_header_bytes)) (omega (arith, extensible.newer_page_list_bytes)) p r copied

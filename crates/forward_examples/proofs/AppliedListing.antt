@@ -16,8 +16,7 @@ use Rattle.header.specs.Tables.{header_of}
 use Rattle.listing.specs.Order.{joined, below, order}
 use Rattle.listing.specs.Lines.{line, entry_line, listing}
 use Rattle.listing.specs.Answers.{fitted, placed, answer, left, Answered}
-use Rattle.listing.specs.declared.ListAnswer.{ListAnswer}
-use Rattle.listing.specs.declared.ListAnswer.TheVariants.{Listed, Refused}
+use Rattle.listing.specs.Answer.{ListAnswer}
 use Rattle.tree.specs.Bytes.{spelled}
 use Rattle.tree.specs.EnvelopeTree.{unsummed, sealed}
 use Rattle.tree.specs.HeaderTree.{feature_words, texts_shape, lists_shape, payload_shape, head_shape, strings_shape, field_shape, column_shape, alias_shape, HeaderTree, render_header}
@@ -27,6 +26,7 @@ use Rattle.forward.proofs.Demand3.{demand_3}
 use Rattle.forward_examples.specs.Example.{plain_header, newer_header, appended_fields, appended_columns, appended_header, plain_lines, more_lines, Listable}
 use Rattle.forward_examples.proofs.Extensible.{extensible, appendable}
 use Rattle.forward_examples.proofs.Applied.{plain_bytes, the_plain, chosen_header}
+use Rattle.std.specs.Prelude.{Ok, Err}
 
 -- what is listed
 
@@ -45,21 +45,21 @@ list_call lines lent reads are = record { answers = rw (reads, are); reports = r
 abbrev lent_bytes : List ℕ
 lent_bytes = replicate 23 9
 
-plain_list_call : Answered (render_header plain_header) lent_bytes (plain_lines ++ (9 ∷ [])) (Listed 22)
+plain_list_call : Answered (render_header plain_header) lent_bytes (plain_lines ++ (9 ∷ [])) (Ok 22)
 unfolding fitted placed
 plain_list_call = list_call plain_lines lent_bytes extensible.header_reads listable.plain
 
-pub newer_list_call : Answered (render_header newer_header) lent_bytes (plain_lines ++ (9 ∷ [])) (Listed 22)
+pub newer_list_call : Answered (render_header newer_header) lent_bytes (plain_lines ++ (9 ∷ [])) (Ok 22)
 unfolding fitted placed
 newer_list_call = list_call plain_lines lent_bytes extensible.newer_header_reads listable.newer
 
 -- the header with one more field has more lines: lent too few bytes for them the call refuses, and leaves these bytes as they were
 
-pub appended_list_call : Answered (render_header appended_header) (replicate 28 5) (more_lines ++ (5 ∷ [])) (Listed 27)
+pub appended_list_call : Answered (render_header appended_header) (replicate 28 5) (more_lines ++ (5 ∷ [])) (Ok 27)
 unfolding fitted placed
 appended_list_call = list_call more_lines (replicate 28 5) appendable.appended_reads listable.more
 
-pub appended_few_call : Answered (render_header appended_header) lent_bytes lent_bytes (Refused 20)
+pub appended_few_call : Answered (render_header appended_header) lent_bytes lent_bytes (Err 20)
 unfolding fitted placed
 appended_few_call = list_call more_lines lent_bytes appendable.appended_reads listable.more
 

@@ -15,7 +15,6 @@ use Rattle.rows.specs.declared.FieldRow.{FieldRow}
 use Rattle.header.specs.Header.{Header, payload}
 use Rattle.parents.specs.Parents.{Inside, Reaches, all_reach, endless}
 use Rattle.outcome.specs.Outcome.{Outcome}
-use Rattle.header.specs.declared.HeaderAnswer.TheVariants.{Accepted, Refused}
 use Rattle.header.specs.Tables.{chained, header_of, parents_of, chain_fault, lowest_in, endless_fault}
 use Rattle.header.specs.Statements.{Lowest, ChainsAsDefined, EndlessAsDefined, DarkAsDefined, HeaderAnswerTells}
 use Rattle.std.specs.Prelude.{Option, Some, None}
@@ -25,6 +24,7 @@ use Rattle.parents.proofs.EndlessLaws.{all_end, one_endless, all_reach_iff}
 use Rattle.parents.proofs.DarkLaws.{Owned, dark_iff}
 use Rattle.header.proofs.BoundLaws.{each_owned}
 use Rattle.header.proofs.HeaderLaws.{payload_inside, header_reaches, parents_inside, column_fields}
+use Rattle.std.specs.Prelude.{Ok, Err}
 
 module _ (rows : List FieldRow) (inside : Inside (parents_of rows) (length rows)) where
   same : endless (parents_of rows) (length (parents_of rows)) (length rows) ≡ endless (parents_of rows) (length rows) (length rows)
@@ -94,12 +94,12 @@ dark_as_defined e h p w =
     long = length-map h.lists.fields (λ (r : FieldRow). r.head.parent.0)
 
 pub header_answer_tells : HeaderAnswerTells
-header_answer_tells (Accepted t) (Accepted u) o e =
+header_answer_tells (Ok t) (Ok u) o e =
     let counts = ap (λ (x : Outcome). x.counts) o in
     let f : t.fields ≡ u.fields = ap (λ (l : List ℕ). get_or l 0 0) counts in
     let c : t.columns ≡ u.columns = ap (λ (l : List ℕ). get_or l 1 0) counts in
     let a : t.aliases ≡ u.aliases = ap (λ (l : List ℕ). get_or l 2 0) counts in
-    λ i. Accepted (record { texts = e i; fields = f i; columns = c i; aliases = a i })
-header_answer_tells (Accepted t) (Refused n) o e = let z : ◌≡◌ {A = ℕ} 0 1 = ap (λ (x : Outcome). x.envelope) o in absurd (omega arith)
-header_answer_tells (Refused n) (Accepted t) o e = let z : ◌≡◌ {A = ℕ} 1 0 = ap (λ (x : Outcome). x.envelope) o in absurd (omega arith)
-header_answer_tells (Refused n) (Refused k) o e = ap (λ (x : ℕ). Refused x) (ap (λ (x : Outcome). x.number) o)
+    λ i. Ok (record { texts = e i; fields = f i; columns = c i; aliases = a i })
+header_answer_tells (Ok t) (Err n) o e = let z : ◌≡◌ {A = ℕ} 0 1 = ap (λ (x : Outcome). x.envelope) o in absurd (omega arith)
+header_answer_tells (Err n) (Ok t) o e = let z : ◌≡◌ {A = ℕ} 1 0 = ap (λ (x : Outcome). x.envelope) o in absurd (omega arith)
+header_answer_tells (Err n) (Err k) o e = ap (λ (x : ℕ). Err x) (ap (λ (x : Outcome). x.number) o)

@@ -2,8 +2,8 @@
 use Rattle.std.specs.Prelude.{ℕ, ◌≤◌, List, [], ◌∷◌, ◌++◌, ◌≡◌, length, drop}
 use Rattle.rows.specs.Words.{field_width}
 use Rattle.header.specs.Tables.{header_of, Answered}
-use Rattle.header.specs.declared.HeaderAnswer.{HeaderAnswer}
-use Rattle.header.specs.declared.HeaderAnswer.TheVariants.{Accepted}
+use Rattle.header.specs.Answer.{HeaderAnswer}
+use Rattle.std.specs.Prelude.{Ok}
 
 -- the smallest header: no feature, two empty strings, three empty lists
 abbrev pub smallest_header : List ℕ
@@ -15,7 +15,7 @@ smallest_header =
 abbrev pub SmallestHeader : Type 0
 SmallestHeader =
     (f f' c c' a a' : List ℕ) (r : HeaderAnswer) → Answered (header_of smallest_header) f f' c c' a a' r
-    → (r ≡ Accepted (record { texts = record { name = record { place = 16; len = 0 }; description = record { place = 20; len = 0 } }; fields = 0; columns = 0; aliases = 0 }))
+    → (r ≡ Ok (record { texts = record { name = record { place = 16; len = 0 }; description = record { place = 20; len = 0 } }; fields = 0; columns = 0; aliases = 0 }))
     × (f' ≡ f) × (c' ≡ c) × (a' ≡ a)
 
 -- a header with one field: versions 2 and 3, its own parent, role 1, five times, named "ab", of type "T", described by "d"
@@ -30,5 +30,5 @@ header_with_one_field =
 abbrev pub HeaderWithOneField : Type 0
 HeaderWithOneField =
     (f f' c c' a a' : List ℕ) (r : HeaderAnswer) → field_width ≤ length f → Answered (header_of header_with_one_field) f f' c c' a a' r
-    → (r ≡ Accepted (record { texts = record { name = record { place = 16; len = 0 }; description = record { place = 20; len = 0 } }; fields = 1; columns = 0; aliases = 0 }))
+    → (r ≡ Ok (record { texts = record { name = record { place = 16; len = 0 }; description = record { place = 20; len = 0 } }; fields = 1; columns = 0; aliases = 0 }))
     × (f' ≡ (2 ∷ 3 ∷ 0 ∷ 1 ∷ 1 ∷ 5 ∷ 60 ∷ 2 ∷ 66 ∷ 1 ∷ 71 ∷ 0 ∷ 75 ∷ 1 ∷ 0 ∷ []) ++ drop 15 f) × (c' ≡ c) × (a' ≡ a)

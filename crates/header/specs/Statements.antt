@@ -10,7 +10,7 @@ use Rattle.header.specs.Header.{Header, field_list, payload}
 use Rattle.parents.specs.Parents.{Reaches}
 use Rattle.parents.specs.Dark.{dark, UnknownBelow}
 use Rattle.header.specs.Tables.{header_of, parents_of, record_at, chain_fault, outcome_of, texts_of}
-use Rattle.header.specs.declared.HeaderAnswer.{HeaderAnswer}
+use Rattle.header.specs.Answer.{HeaderAnswer}
 
 -- of n fields, f is the lowest whose chain reaches no self-parented field
 pub record Lowest (parents : List ℕ) (n f : ℕ) : Type 0 where

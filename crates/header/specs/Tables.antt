@@ -17,8 +17,8 @@ use Rattle.std.specs.Prelude.{Option, Some, None}
 use Rattle.rows.specs.declared.FieldNumber.{FieldNumber}
 use Rattle.parents.specs.Dark.{dark}
 use Rattle.rows.specs.declared.FieldRow.{FieldRow}
-use Rattle.header.specs.declared.HeaderAnswer.{HeaderAnswer}
-use Rattle.header.specs.declared.HeaderAnswer.TheVariants.{Accepted, Refused}
+use Rattle.header.specs.Answer.{HeaderAnswer}
+use Rattle.std.specs.Prelude.{Ok, Err}
 
 abbrev pub parents_of : List FieldRow → List ℕ
 parents_of = map (λ (r : FieldRow). r.head.parent.0)
@@ -75,8 +75,8 @@ tables_of h = record { texts = h.texts; fields = length h.lists.fields; columns 
 
 -- the whole answer, for tables of f, c and a words
 unfoldable pub answer : ℕ → ℕ → ℕ → Step Header → HeaderAnswer
-answer f c a (found h p) = pick (room_for f c a h.lists) (Accepted (tables_of h)) (Refused 20)
-answer f c a (refused g) = Refused g.number
+answer f c a (found h p) = pick (room_for f c a h.lists) (Ok (tables_of h)) (Err 20)
+answer f c a (refused g) = Err g.number
 
 -- a lent table after the call: the words in front where the header is accepted, else as it was
 unfoldable pub written : (Lists → List ℕ) → ℕ → ℕ → ℕ → List ℕ → Step Header → List ℕ
@@ -86,16 +86,16 @@ written words f c a old (refused g) = old
 -- the answer in document 01's terms
 
 abbrev pub outcome_of : HeaderAnswer → Outcome
-outcome_of (Accepted t) = accepted_with (t.fields ∷ t.columns ∷ t.aliases ∷ [])
-outcome_of (Refused n) = refused_in 1 n 3
+outcome_of (Ok t) = accepted_with (t.fields ∷ t.columns ∷ t.aliases ∷ [])
+outcome_of (Err n) = refused_in 1 n 3
 
 abbrev pub no_texts : HeaderTexts
 no_texts = record { name = record { place = 0; len = 0 }; description = record { place = 0; len = 0 } }
 
 -- where name and description stand
 abbrev pub texts_of : HeaderAnswer → HeaderTexts
-texts_of (Accepted t) = t.texts
-texts_of (Refused n) = no_texts
+texts_of (Ok t) = t.texts
+texts_of (Err n) = no_texts
 
 -- the outcome that is due, for tables of f, c and a words, and where name and description then stand
 

@@ -12,8 +12,13 @@ pub struct HeaderTables {
     pub aliases: usize,
 }
 
+// What a header's tables hold, or the number of the rule that refuses it; the envelope is 1.
+pub type HeaderAnswer = Result<HeaderTables, u16>;
+
+// A refusal of what is read or written beside a header: the envelope that is refused, 1 for the header, 2 for a footer, 3 for a page list,
+// and the number of the rule.
 #[derive(Clone, Copy)]
-pub enum HeaderAnswer {
-    Accepted(HeaderTables),
-    Refused(u16),
+pub struct Refusal {
+    pub envelope: u16,
+    pub number: u16,
 }

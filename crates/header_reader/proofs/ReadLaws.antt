@@ -21,8 +21,7 @@ use Rattle.parents.proofs.InsideLaws.{inside_front}
 use Rattle.parents.proofs.DarkLaws.{Owned, hanging_all}
 use Rattle.header.specs.Header.{Header}
 use Rattle.header.specs.Tables.{parents_of, header_of, fitting, answer, written, outcome_of, texts_of, field_table, column_table, alias_table, Answered}
-use Rattle.header.specs.declared.HeaderAnswer.{HeaderAnswer}
-use Rattle.header.specs.declared.HeaderAnswer.TheVariants.{Accepted, Refused}
+use Rattle.header.specs.Answer.{HeaderAnswer}
 use Rattle.header.proofs.BoundLaws.{each_owned}
 use Rattle.header.proofs.HeaderLaws.{fields_few, parents_inside, column_fields}
 use Rattle.header_payload.specs.Answers.{scan_of}
@@ -30,6 +29,7 @@ use Rattle.header_payload.specs.declared.HeaderScan.{HeaderScan}
 use Rattle.header_reader.specs.Fits.{Fits, Rows, Scanned}
 use Rattle.header_reader.proofs.ScanLaws.{fitting_true}
 use Rattle.header_reader.proofs.FillLaws.{front}
+use Rattle.std.specs.Prelude.{Ok, Err}
 
 -- a call that leaves the answer and the tables that are due
 answered : (x : Step Header) {f₀ f c₀ c a₀ a : List ℕ} {r : HeaderAnswer} → r ≡ answer (length f₀) (length c₀) (length a₀) x
@@ -38,7 +38,7 @@ answered : (x : Step Header) {f₀ f c₀ c a₀ a : List ℕ} {r : HeaderAnswer
 answered x e ef ec ea = record { answers = e; reports = ap outcome_of e; reports_texts = ap texts_of e; fields_are = ef; columns_are = ec; aliases_are = ea }
 
 -- a refused header changes no table
-pub answered_refused : {x : Step Header} {g : Fault} (f c a : List ℕ) → x ≡ refused g → Answered x f f c c a a (Refused g.number)
+pub answered_refused : {x : Step Header} {g : Fault} (f c a : List ℕ) → x ≡ refused g → Answered x f f c c a a (Err g.number)
 unfolding answer written
 answered_refused {x} f c a e = answered x (rw e) (rw e) (rw e) (rw e)
 
@@ -121,7 +121,7 @@ module _ (e : List ℕ) {scan : HeaderScan} {q : ℕ} (w : found scan q ≡ mapp
         ≡ fitting (length F) (length C) (length A) (length the_header.value.lists.fields) (length the_header.value.lists.columns) (length the_header.value.lists.aliases)
     fits_same = ap (λ (x : HeaderScan). fitting (length F) (length C) (length A) x.lists.fields x.lists.columns x.lists.aliases) the_header.is
 
-    pub no_room : false ≡ fitting (length F) (length C) (length A) scan.lists.fields scan.lists.columns scan.lists.aliases → Answered (header_of e) F F C C A A (Refused 20)
+    pub no_room : false ≡ fitting (length F) (length C) (length A) scan.lists.fields scan.lists.columns scan.lists.aliases → Answered (header_of e) F F C C A A (Err 20)
     unfolding answer written
     no_room x = let z = sym fits_same ∙ sym x in answered (header_of e) (rw (is_found, z)) (rw (is_found, z)) (rw (is_found, z)) (rw (is_found, z))
 
@@ -135,12 +135,12 @@ module _ (e : List ℕ) {scan : HeaderScan} {q : ℕ} (w : found scan q ≡ mapp
           → F' ≡ over (flat_by (λ i. field_words (dark_mark p scan.lists.fields (columns_in c scan.lists.columns) i)) 0 (first_rows field_row r scan.lists.fields)) F
           → C' ≡ over (take (column_width * scan.lists.columns) c) C
           → A' ≡ over (take (alias_width * scan.lists.aliases) a) A
-          → Answered (header_of e) F F' C C' A A' (Accepted (record { texts = scan.texts; fields = scan.lists.fields; columns = scan.lists.columns; aliases = scan.lists.aliases }))
+          → Answered (header_of e) F F' C C' A A' (Ok (record { texts = scan.texts; fields = scan.lists.fields; columns = scan.lists.columns; aliases = scan.lists.aliases }))
       unfolding answer written
       all_read i j l =
           let t = sym fits_same ∙ sym x in
           answered (header_of e)
-          (rw (is_found, t) (ap (λ (v : HeaderScan). Accepted (record { texts = v.texts; fields = v.lists.fields; columns = v.lists.columns; aliases = v.lists.aliases })) the_header.is))
+          (rw (is_found, t) (ap (λ (v : HeaderScan). Ok (record { texts = v.texts; fields = v.lists.fields; columns = v.lists.columns; aliases = v.lists.aliases })) the_header.is))
           (rw (is_found, t) (fields_written F i))
           (rw (is_found, t) (j ∙ ap (λ (v : List ℕ). over v C) columns_front.0))
           (rw (is_found, t) (l ∙ ap (λ (v : List ℕ). over v A) aliases_front.0))

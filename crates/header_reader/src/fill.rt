@@ -104,15 +104,15 @@ pub fn answer_scan(
                     columns,
                     aliases,
                 );
-                return HeaderAnswer::Accepted(HeaderTables {
+                return Ok(HeaderTables {
                     texts,
                     fields: lists.fields,
                     columns: lists.columns,
                     aliases: lists.aliases,
                 });
             }
-            HeaderAnswer::Refused(20)
+            Err(20)
         }
-        Err(f) => HeaderAnswer::Refused(f.number),
+        Err(f) => Err(f.number),
     }
 }

@@ -14,12 +14,12 @@ use Rattle.writing.specs.Rows.{HeaderRows, header_rows}
 use Rattle.writing.specs.Header.{payload_piece, header_piece, chains}
 use Rattle.writing.specs.Answers.{Answered}
 use Rattle.writing.specs.Promises.{HeaderPromised}
-use Rattle.writing.specs.declared.WriteAnswer.{WriteAnswer}
-use Rattle.writing.specs.declared.WriteAnswer.TheVariants.{Written, Refused}
+use Rattle.writing.specs.Answer.{WriteAnswer}
 use Rattle.writing.proofs.HeaderBack.{header_promised}
 use Rattle.stores.specs.Stored.{InFront}
 use Rattle.stores.proofs.Answers.{Exact, length_first, long_answer, number_answer, room_answer, written_answer}
 use Rattle.stores.proofs.Counting.{counted}
+use Rattle.std.specs.Prelude.{Ok, Err}
 
 module _ (strings : List ℕ) (named : HeaderTexts) (fields columns aliases out : List ℕ) where
   abbrev t : HeaderRows
@@ -45,15 +45,15 @@ module _ (strings : List ℕ) (named : HeaderTexts) (fields columns aliases out 
   exact = (header_promised strings named t).long
 
   module _ {long : ℕ} (its : long ≡ capped x.long) where
-    pub header_long : ceiling < long → Answers out (Refused 1 1)
+    pub header_long : ceiling < long → Answers out (Err (record { envelope = 1; number = 1 }))
     header_long big = long_answer 1 x out rest (number_is_lem refl) long (counted x.long long its) big
 
     module _ {number : ℕ} (short : long ≤ ceiling) (is : number ≡ rest) where
-      pub header_refused_lem : (number ≡ 0 → ⊥) → Answers out (Refused 1 number)
+      pub header_refused_lem : (number ≡ 0 → ⊥) → Answers out (Err (record { envelope = 1; number = number }))
       header_refused_lem bad = number_answer 1 x out number (number_is_lem is) long (counted x.long long its) short bad
 
-      pub header_roomless : number ≡ 0 → length out < long → Answers out (Refused 1 20)
+      pub header_roomless : number ≡ 0 → length out < long → Answers out (Err (record { envelope = 1; number = 20 }))
       header_roomless good few = room_answer 1 x out number (number_is_lem is) long (counted x.long long its) short good few
 
-      pub header_written : {out' : List ℕ} → number ≡ 0 → long ≤ length out → InFront x out out' → Answers out' (Written long)
+      pub header_written : {out' : List ℕ} → number ≡ 0 → long ≤ length out → InFront x out out' → Answers out' (Ok long)
       header_written good enough stands = written_answer 1 x out number (number_is_lem is) long (counted x.long long its) short _ exact good enough stands

@@ -5,6 +5,7 @@ mod write;
 
 ghost use Rattle.writing.specs.Answers.{Answered, header_to_write};
 
+use header::Refusal;
 use records::HeaderTexts;
 use writing::WriteAnswer;
 
@@ -22,15 +23,24 @@ pub fn write_header(
 {
     let long = header_check::header_long(texts, fields, columns, aliases);
     if verdicts::CEILING < long {
-        return WriteAnswer::Refused(1, 1);
+        return Err(Refusal {
+            envelope: 1,
+            number: 1,
+        });
     }
     let number = header_check::header_number(strings, texts, fields, columns, aliases);
     if number != 0 {
-        return WriteAnswer::Refused(1, number);
+        return Err(Refusal {
+            envelope: 1,
+            number,
+        });
     }
     if out.len() < long {
-        return WriteAnswer::Refused(1, 20);
+        return Err(Refusal {
+            envelope: 1,
+            number: 20,
+        });
     }
     write::write_envelope(strings, texts, fields, columns, aliases, out);
-    WriteAnswer::Written(long)
+    Ok(long)
 }

@@ -6,15 +6,15 @@ use lib.ListN.{length}
 use Rattle.numbers.specs.Rows.{put}
 use Rattle.outcome.specs.Outcome.{code_of}
 use Rattle.listing.specs.Answers.{Answered, outcome_of}
-use Rattle.listing.specs.declared.ListAnswer.{ListAnswer}
-use Rattle.listing.specs.declared.ListAnswer.TheVariants.{Listed, Refused}
+use Rattle.listing.specs.Answer.{ListAnswer}
 use Rattle.answers.specs.Handed.{short_result}
 use Rattle.answers.proofs.HandedLaws.{given_room, given_short, hands_nothing, tells}
 use Rattle.list_calls.specs.Calls.{ListCall}
+use Rattle.std.specs.Prelude.{Ok, Err}
 
 list_words : (r : ListAnswer) → length (outcome_of r).counts ≡ 1
-list_words (Listed long) = refl
-list_words (Refused number) = refl
+list_words (Ok long) = refl
+list_words (Err number) = refl
 
 pub list_short : (e out w : List ℕ) → length w < 1 → ListCall e out out w w short_result
 list_short e out w short = record { hands_over = hands_nothing 1 _ _ w short; bytes_are = given_short 1 w _ _ short }

@@ -27,11 +27,11 @@ fn tell_listed(answer: ListAnswer, res: &mut [u64]) -> u32
     ensures leaves { res.new ≡ put res.old 0 (outcome_of answer).counts }
 {
     match answer {
-        ListAnswer::Listed(long) => {
+        Ok(long) => {
             rows::put_words(res, 0, &[long as u64]);
             0
         }
-        ListAnswer::Refused(number) => {
+        Err(number) => {
             rows::put_words(res, 0, &[0; 1]);
             256 + number as u32
         }

@@ -16,10 +16,10 @@ use Rattle.report.specs.Program.{most_bytes, printed as printedLine}
 use Rattle.report.specs.declared.Line.{Line}
 use Rattle.listing.specs.Lines.{listing}
 use Rattle.listing.specs.Answers.{Answered}
-use Rattle.listing.specs.declared.ListAnswer.{ListAnswer}
-use Rattle.listing.specs.declared.ListAnswer.TheVariants.{Listed, Refused}
+use Rattle.listing.specs.Answer.{ListAnswer}
 use Rattle.listing.proofs.CallLaws.{call_listed, call_refused}
 use Rattle.list_report.specs.Printed.{shown_for, printed, Prints}
+use Rattle.std.specs.Prelude.{Ok, Err}
 
 pub prints_counts : {bytes old new : List ℕ} {r : ℕ} → Prints bytes old new r → IsPrefixLen r new
 prints_counts {bytes} {old} {new} {r} p =
@@ -50,7 +50,7 @@ is_shown e short reads = ap (shown_for e) (sym reads) ∙ rw (le-leb (length e) 
 
 -- and by what the call for it answers
 module _ (e : List ℕ) (short : length e ≤ most_bytes) (out₀ : List ℕ) {out : List ℕ} (room : length out₀ ≡ most_bytes) where
-  pub listed_prints : {r : ListAnswer} (n : ℕ) → r ≡ Listed n → Answered e out₀ out r → Prints (printed e) out₀ out n
+  pub listed_prints : {r : ListAnswer} (n : ℕ) → r ≡ Ok n → Answered e out₀ out r → Prints (printed e) out₀ out n
   unfolding shown_for
   listed_prints n is a =
       let c = call_listed e out₀ out n (subst (Answered e out₀ out) is a) in
@@ -60,7 +60,7 @@ module _ (e : List ℕ) (short : length e ≤ most_bytes) (out₀ : List ℕ) {o
       let shown : shown_for e (found c.header c.place) ≡ bytes = rw (le-leb (length bytes) most_bytes (omega arith)) in
       subst (λ (l : List ℕ). Prints l out₀ out n) (sym shown ∙ is_shown e short c.reads) (record { many = count; stands = c.leaves })
 
-  pub refused_prints : {r : ListAnswer} (n : ℕ) → r ≡ Refused n → Answered e out₀ out r → (refused_line n ≡ printed e) × (out ≡ out₀)
+  pub refused_prints : {r : ListAnswer} (n : ℕ) → r ≡ Err n → Answered e out₀ out r → (refused_line n ≡ printed e) × (out ≡ out₀)
   unfolding shown_for
   refused_prints n is a =
       let c = call_refused e out₀ out n (subst (Answered e out₀ out) is a) in

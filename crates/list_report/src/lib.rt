@@ -5,8 +5,6 @@ ghost use Rattle.std.specs.Prelude.{take};
 ghost use Rattle.io.specs.Counts.{IsPrefixLen};
 ghost use Rattle.list_report.specs.Printed.{printed, Prints};
 
-use header::HeaderAnswer;
-use listing::ListAnswer;
 use report::Line;
 
 // The most bytes of a listing, as many as of a header that is read.
@@ -22,10 +20,8 @@ pub fn list_header(input: &[u8], out: &mut [u8; MOST_BYTES]) -> usize
         return put_line(report::check_header(input), out);
     }
     match field_listing::list_fields(input, out) {
-        ListAnswer::Listed(len) => len,
-        ListAnswer::Refused(number) => {
-            put_line(report::header_line(HeaderAnswer::Refused(number)), out)
-        }
+        Ok(len) => len,
+        Err(number) => put_line(report::header_line(Err(number)), out),
     }
 }
 

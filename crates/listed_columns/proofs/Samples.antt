@@ -26,7 +26,6 @@ use Rattle.rows.specs.Tables.{rows_in, row_words, first_rows}
 use Rattle.rows.specs.declared.PageRow.{PageRow}
 use Rattle.page_list.specs.PageList.{page_list_of, summed}
 use Rattle.page_list.specs.Tables.{page_list_beside, answer, written, Answered}
-use Rattle.page_list.specs.declared.PageListAnswer.TheVariants.{Accepted}
 use Rattle.column_pages.specs.ColumnPages.{payload as pageListPayload, pages_of}
 use Rattle.pages.specs.Pages.{pages, page, elements_of}
 use Rattle.totals.specs.Totals.{totals, total_of}
@@ -39,6 +38,7 @@ use Rattle.column_rules.specs.Samples.{sample_file, nine_bits, four_bits}
 use Rattle.listed_columns.specs.Listed.{Listed, type_in, ListedCall, NothingLeft}
 use Rattle.listed_columns.specs.Samples.{sample_header, sample_tables, sample_page_list, sample_pages, long_page_list, long_pages, Samples, EachGiven}
 use Rattle.listed_columns.proofs.Listed.{nothing_left}
+use Rattle.std.specs.Prelude.{Ok}
 
 header_reads_lem : header_of sample_header ≡ found sample_tables 112
 unfolding versioned opened record_of list_of items number judged string_of well_formed goes_on due frame_size record_head list_stop count_judged little crc32 fold byte bits shifted features header_of chained payload texts lists columns_after aliases_after repetition field_head field_texts field column alias known width_of widths all_reach meets
@@ -63,20 +63,20 @@ long_reads : page_list_of sample_tables 1 16385 long_page_list ≡ found long_ro
 unfolding versioned opened record_of list_of items number judged frame_size list_stop count_judged little crc32 fold byte bits shifted known page_list_of pageListPayload summed pages page pages_of totals total_of elements_of
 long_reads = refl
 
-sample_call_lem : Answered (page_list_beside sample_header sample_page_list 1 11) (replicate 15 77) sample_pages (Accepted 3)
+sample_call_lem : Answered (page_list_beside sample_header sample_page_list 1 11) (replicate 15 77) sample_pages (Ok 3)
 unfolding page_list_beside answer written flat pages_of
 sample_call_lem =
     rw (both_read_is 3 (λ h. page_list_of h 1 11 sample_page_list) (header_of sample_header) sample_rows sample_tables 112 76 header_reads_lem sample_reads)
     (record { answers = refl; reports = refl; pages_are = refl })
 
-long_call : Answered (page_list_beside sample_header long_page_list 1 16385) (replicate 10 77) long_pages (Accepted 2)
+long_call : Answered (page_list_beside sample_header long_page_list 1 16385) (replicate 10 77) long_pages (Ok 2)
 unfolding page_list_beside answer written flat pages_of
 long_call =
     rw (both_read_is 3 (λ h. page_list_of h 1 16385 long_page_list) (header_of sample_header) long_rows sample_tables 112 60 header_reads_lem long_reads)
     (record { answers = refl; reports = refl; pages_are = refl })
 
 -- pages of column c, of type t, in a page list beside the sample header
-module _ (list : List ℕ) (told : ℕ) (before pages : List ℕ) (count : ℕ) (accepted : Answered (page_list_beside sample_header list 1 told) before pages (Accepted count)) where
+module _ (list : List ℕ) (told : ℕ) (before pages : List ℕ) (count : ℕ) (accepted : Answered (page_list_beside sample_header list 1 told) before pages (Ok count)) where
   listed_call : (t c : ℕ) (file table : List ℕ) → all_bytes list ≡ true → told ≤ length file → t ≡ type_in sample_tables c → readable t ≡ true
       → rows_in column_page_width table ≤ most_column_pages → Each (Listed c pages count) (column_pages table) → ListedCall t file table
   listed_call t c file table bytes long is_type is_readable few listed =

@@ -11,12 +11,12 @@ use Rattle.header.specs.Header.{Header}
 use Rattle.header.specs.Tables.{header_of}
 use Rattle.column_pages.specs.ColumnPages.{bits_of}
 use Rattle.page_list.specs.Tables.{page_list_beside, Answered}
-use Rattle.page_list.specs.declared.PageListAnswer.TheVariants.{Accepted}
 use Rattle.tree.specs.Bytes.{Bytes}
 use Rattle.page_rules.specs.Page.{readable, most_elements}
 use Rattle.column_rules.specs.declared.ColumnPage.{ColumnPage}
 use Rattle.column_rules.specs.Column.{accept_all, column_page_width, column_pages, most_column_pages, whole_column}
 use Rattle.column_rules.specs.Statements.{AcceptsOr, elements_of}
+use Rattle.std.specs.Prelude.{Ok}
 
 -- What an accepted header and page list say of sizes.
 
@@ -35,7 +35,7 @@ SizeDue bits p = p.size ≡ bytes_for p.elements (get_or bits p.column.0 0)
 -- every row that an accepting call leaves in the lent table is of such a page
 unfoldable pub PageSizesDue : Type 0
 PageSizesDue =
-    (e l : List ℕ) (entries file : ℕ) (p₀ p : List ℕ) (n : ℕ) → Bytes l → Answered (page_list_beside e l entries file) p₀ p (Accepted n)
+    (e l : List ℕ) (entries file : ℕ) (p₀ p : List ℕ) (n : ℕ) → Bytes l → Answered (page_list_beside e l entries file) p₀ p (Ok n)
     → (h : Header) (q : ℕ) → header_of e ≡ found h q
     → (i : ℕ) → i < n → SizeDue (bits_of h.lists.columns) (page_row p i)
 
@@ -71,7 +71,7 @@ pub record ListedCall (t : ℕ) (file table : List ℕ) : Type 0 where
   pub before : List ℕ
   pub pages : List ℕ
   pub count : ℕ
-  pub accepted : Answered (page_list_beside header list entries told) before pages (Accepted count)
+  pub accepted : Answered (page_list_beside header list entries told) before pages (Ok count)
   -- the part of the file has as many bytes as the reader was told that the file has, or more
   pub long : told ≤ length file
   -- the type is that of a column, and its pages are read

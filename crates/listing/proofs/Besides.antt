@@ -11,20 +11,19 @@ use Rattle.wire.specs.Reading.{Step, found, refused}
 use Rattle.header.specs.Header.{Header}
 use Rattle.header.specs.Tables.{header_of, room_for, tables_of, answer as headerAnswer}
 use Rattle.header.specs.declared.HeaderTables.{HeaderTables}
-use Rattle.header.specs.declared.HeaderAnswer.TheVariants.{Accepted as HeaderAccepted, Refused as HeaderRefused}
 use Rattle.listing.specs.Lines.{listing}
 use Rattle.listing.specs.Answers.{fitted, answer}
 use Rattle.listing.specs.Statements.{BesideReader, ListBesideReader}
-use Rattle.listing.specs.declared.ListAnswer.TheVariants.{Refused}
 use Rattle.listing.proofs.CallLaws.{fitted_is, not_both, refused_same}
+use Rattle.std.specs.Prelude.{Ok, Err}
 
 -- a refusal by room alone is 20
 
-room_refused : (fits : Bool) (t : HeaderTables) (k : ℕ) → pick fits (HeaderAccepted t) (HeaderRefused 20) ≡ HeaderRefused k → k ≡ 20
+room_refused : (fits : Bool) (t : HeaderTables) (k : ℕ) → pick fits (Ok t) (Err 20) ≡ Err k → k ≡ 20
 room_refused true t k e = absurd (let z : ◌≡◌ {A = ℕ} 0 1 = cc in omega arith)
 room_refused false t k e = cc
 
-fitted_refused : (room : ℕ) (bytes : List ℕ) (k : ℕ) → fitted room bytes ≡ Refused k → k ≡ 20
+fitted_refused : (room : ℕ) (bytes : List ℕ) (k : ℕ) → fitted room bytes ≡ Err k → k ≡ 20
 fitted_refused room bytes k e = ⊎_elim (λ r. absurd (not_both r.1 e)) (λ r. refused_same (sym e ∙ r.1)) (fitted_is room bytes)
 
 by_step : (e : List ℕ) (room f c a : ℕ) (x : Step Header) → header_of e ≡ x → BesideReader e room (headerAnswer f c a x) (answer room e x)

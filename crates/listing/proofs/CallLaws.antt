@@ -16,17 +16,17 @@ use Rattle.header.specs.Header.{Header}
 use Rattle.header.specs.Tables.{header_of}
 use Rattle.listing.specs.Lines.{listing}
 use Rattle.listing.specs.Answers.{fitted, placed, answer, left, Answered}
-use Rattle.listing.specs.declared.ListAnswer.{ListAnswer}
-use Rattle.listing.specs.declared.ListAnswer.TheVariants.{Listed, Refused}
+use Rattle.listing.specs.Answer.{ListAnswer}
+use Rattle.std.specs.Prelude.{Ok, Err}
 
 -- bytes that fit, and bytes that do not
 
 module _ (room : ℕ) (bytes : List ℕ) where
-  pub fits_listed : length bytes ≤ room → fitted room bytes ≡ Listed (length bytes)
+  pub fits_listed : length bytes ≤ room → fitted room bytes ≡ Ok (length bytes)
   unfolding fitted
   fits_listed fits = rw (le-leb (length bytes) room fits)
 
-  pub few_refused : room < length bytes → fitted room bytes ≡ Refused 20
+  pub few_refused : room < length bytes → fitted room bytes ≡ Err 20
   unfolding fitted
   few_refused few = rw (lt-leb (length bytes) room few)
 
@@ -39,7 +39,7 @@ module _ (out bytes : List ℕ) where
   unfolding placed
   few_placed few = rw (lt-leb (length bytes) (length out) few)
 
-pub fitted_is : (room : ℕ) (bytes : List ℕ) → ((length bytes ≤ room) × (fitted room bytes ≡ Listed (length bytes))) ⊎ ((room < length bytes) × (fitted room bytes ≡ Refused 20))
+pub fitted_is : (room : ℕ) (bytes : List ℕ) → ((length bytes ≤ room) × (fitted room bytes ≡ Ok (length bytes))) ⊎ ((room < length bytes) × (fitted room bytes ≡ Err 20))
 fitted_is room bytes =
     ⊎_elim
     (λ t. let fits = leb-true (length bytes) room t in inl (fits, fits_listed room bytes fits))
@@ -48,13 +48,13 @@ fitted_is room bytes =
 
 -- answers told apart
 
-listed_same : {n m : ℕ} → Listed n ≡ Listed m → n ≡ m
+listed_same : {n m : ℕ} → ◌≡◌ {A = ListAnswer} (Ok n) (Ok m) → n ≡ m
 listed_same e = cc
 
-pub refused_same : {n m : ℕ} → Refused n ≡ Refused m → n ≡ m
+pub refused_same : {n m : ℕ} → ◌≡◌ {A = ListAnswer} (Err n) (Err m) → n ≡ m
 refused_same e = cc
 
-pub not_both : {n m : ℕ} {r : ListAnswer} → r ≡ Listed n → r ≡ Refused m → ⊥
+pub not_both : {n m : ℕ} {r : ListAnswer} → r ≡ Ok n → r ≡ Err m → ⊥
 not_both a b = let z : ◌≡◌ {A = ℕ} 0 1 = cc in omega arith
 
 -- a call for an accepted header
@@ -85,7 +85,7 @@ pub record CallRefused (e out out' : List ℕ) (k : ℕ) : Type 0 where
       ⊎ ((f : Fault) × (header_of e ≡ refused f) × (k ≡ f.number))
 
 module _ (e out out' : List ℕ) where
-  pub call_listed : (n : ℕ) → Answered e out out' (Listed n) → CallListed e out out' n
+  pub call_listed : (n : ℕ) → Answered e out out' (Ok n) → CallListed e out out' n
   unfolding answer
   call_listed n call = by (header_of e) refl
     where
@@ -111,7 +111,7 @@ module _ (e out out' : List ℕ) where
           (fitted_is (length out) bytes)
       by (refused f) reads = absurd (not_both refl (call.answers ∙ ap (answer (length out) e) reads))
 
-  pub call_refused : (k : ℕ) → Answered e out out' (Refused k) → CallRefused e out out' k
+  pub call_refused : (k : ℕ) → Answered e out out' (Err k) → CallRefused e out out' k
   unfolding answer left
   call_refused k call = by (header_of e) refl
     where

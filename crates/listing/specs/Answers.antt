@@ -7,13 +7,13 @@ use Rattle.outcome.specs.Outcome.{Outcome, accepted_with, refused_in}
 use Rattle.header.specs.Header.{Header}
 use Rattle.header.specs.Tables.{header_of}
 use Rattle.listing.specs.Lines.{listing}
-use Rattle.listing.specs.declared.ListAnswer.{ListAnswer}
-use Rattle.listing.specs.declared.ListAnswer.TheVariants.{Listed, Refused}
+use Rattle.listing.specs.Answer.{ListAnswer}
+use Rattle.std.specs.Prelude.{Ok, Err}
 
 -- bytes that are to be written into so much room, and the lent bytes then: these bytes in front where there is room, else as they were
 
 unfoldable pub fitted : ℕ → List ℕ → ListAnswer
-fitted room bytes = pick (leb (length bytes) room) (Listed (length bytes)) (Refused 20)
+fitted room bytes = pick (leb (length bytes) room) (Ok (length bytes)) (Err 20)
 
 unfoldable pub placed : List ℕ → List ℕ → List ℕ
 placed old bytes = pick (leb (length bytes) (length old)) (over bytes old) old
@@ -21,7 +21,7 @@ placed old bytes = pick (leb (length bytes) (length old)) (over bytes old) old
 -- the answer for an envelope e and its header, for so many lent bytes
 unfoldable pub answer : ℕ → List ℕ → Step Header → ListAnswer
 answer room e (found h p) = fitted room (listing e h.lists)
-answer room e (refused f) = Refused f.number
+answer room e (refused f) = Err f.number
 
 -- the lent bytes after the call
 unfoldable pub left : List ℕ → List ℕ → Step Header → List ℕ
@@ -31,8 +31,8 @@ left old e (refused f) = old
 -- the answer in document 01's terms: the envelope and the number of a refusal, and how many bytes were written
 
 abbrev pub outcome_of : ListAnswer → Outcome
-outcome_of (Listed n) = accepted_with (n ∷ [])
-outcome_of (Refused n) = refused_in 1 n 1
+outcome_of (Ok n) = accepted_with (n ∷ [])
+outcome_of (Err n) = refused_in 1 n 1
 
 -- the outcome that is due, for so many lent bytes
 abbrev pub reported : ℕ → List ℕ → Outcome

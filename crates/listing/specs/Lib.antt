@@ -5,3 +5,4 @@ pub mod Answers
 pub mod Listed
 pub mod Statements
 pub mod Samples
+pub mod Answer

@@ -3,15 +3,15 @@
 use Rattle.std.specs.Prelude.{ℕ, ◌≤◌, ◌<◌, List, [], ◌∷◌, ◌++◌, ◌≡◌, length, drop}
 use Rattle.decimals.specs.Decimal.{text}
 use Rattle.listing.specs.Answers.{Answered}
-use Rattle.listing.specs.declared.ListAnswer.{ListAnswer}
-use Rattle.listing.specs.declared.ListAnswer.TheVariants.{Listed, Refused}
+use Rattle.listing.specs.Answer.{ListAnswer}
+use Rattle.std.specs.Prelude.{Ok, Err}
 
 -- what every call for an envelope leaves whose listing is these bytes: they are in front where there is room for them
 abbrev pub ListedAs : List ℕ → List ℕ → Type 0
 ListedAs e bytes =
     (out out' : List ℕ) (r : ListAnswer) → Answered e out out' r
-    → (length bytes ≤ length out → (r ≡ Listed (length bytes)) × (out' ≡ bytes ++ drop (length bytes) out))
-    × (length out < length bytes → (r ≡ Refused 20) × (out' ≡ out))
+    → (length bytes ≤ length out → (r ≡ Ok (length bytes)) × (out' ≡ bytes ++ drop (length bytes) out))
+    × (length out < length bytes → (r ≡ Err 20) × (out' ≡ out))
 
 -- a top-level field 0 "v" of type "vec", with child 1 "_0" of type "float"
 abbrev pub vector_header : List ℕ

@@ -5,15 +5,14 @@ use Rattle.chain_moves.specs.Moves.{moves}
 use Rattle.header.specs.Header.{Header, Lists}
 use Rattle.header.specs.Tables.{header_of, parents_of, Answered as HeaderAnswered}
 use Rattle.header.specs.declared.HeaderTables.{HeaderTables}
-use Rattle.header.specs.declared.HeaderAnswer.{HeaderAnswer}
-use Rattle.header.specs.declared.HeaderAnswer.TheVariants.{Accepted as HeaderAccepted, Refused as HeaderRefused}
+use Rattle.header.specs.Answer.{HeaderAnswer}
 use Rattle.listing.specs.Order.{Entry, holder, order}
 use Rattle.listing.specs.Listed.{fields_in, times, numbers_below, children_in}
 use Rattle.numbers.specs.Lists.{Each}
 use Rattle.listing.specs.Lines.{shown_byte, listing}
 use Rattle.listing.specs.Answers.{Answered}
-use Rattle.listing.specs.declared.ListAnswer.{ListAnswer}
-use Rattle.listing.specs.declared.ListAnswer.TheVariants.{Listed, Refused}
+use Rattle.listing.specs.Answer.{ListAnswer}
+use Rattle.std.specs.Prelude.{Ok, Err}
 
 -- each number below n is in a list exactly once, and no other number is
 pub record OnceEach (n : ℕ) (l : List ℕ) : Type 0 where
@@ -78,12 +77,12 @@ ListingTells =
 -- Beside any call of the header's reader for the same envelope e, with so many bytes lent here: where that accepts, the header is listed, or
 -- refused 20 where the bytes are too few; a refusal is that call's, except 20, which is about other room in each of the two.
 pub record BesideReader (e : List ℕ) (room : ℕ) (r : HeaderAnswer) (s : ListAnswer) : Type 0 where
-  pub accepts : (t : HeaderTables) → r ≡ HeaderAccepted t
+  pub accepts : (t : HeaderTables) → r ≡ Ok t
       → (h : Header) × (p : ℕ) × (header_of e ≡ found h p)
-      × (((length (listing e h.lists) ≤ room) × (s ≡ Listed (length (listing e h.lists))))
-      ⊎ ((room < length (listing e h.lists)) × (s ≡ Refused 20)))
-  pub refuses : (k : ℕ) → r ≡ HeaderRefused k → (k ≡ 20 → ⊥) → s ≡ Refused k
-  pub refused : (k : ℕ) → s ≡ Refused k → (k ≡ 20 → ⊥) → r ≡ HeaderRefused k
+      × (((length (listing e h.lists) ≤ room) × (s ≡ Ok (length (listing e h.lists))))
+      ⊎ ((room < length (listing e h.lists)) × (s ≡ Err 20)))
+  pub refuses : (k : ℕ) → r ≡ Err k → (k ≡ 20 → ⊥) → s ≡ Err k
+  pub refused : (k : ℕ) → s ≡ Err k → (k ≡ 20 → ⊥) → r ≡ Err k
 
 abbrev pub ListBesideReader : Type 0
 ListBesideReader =

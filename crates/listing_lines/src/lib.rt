@@ -26,8 +26,8 @@ pub fn write_lines(
     match room::lines_room(envelope, fields, marks, entries, out.len()) {
         Some(_) => {
             let written = store::store_lines(envelope, fields, marks, entries, out);
-            ListAnswer::Listed(written)
+            Ok(written)
         }
-        None => ListAnswer::Refused(20),
+        None => Err(20),
     }
 }

@@ -10,7 +10,7 @@ use Rattle.header.specs.Header.{Header}
 use Rattle.header.specs.Tables.{header_of}
 use Rattle.listing.specs.Lines.{shown_byte, shown, characters, listing}
 use Rattle.listing.specs.Answers.{Answered}
-use Rattle.listing.specs.declared.ListAnswer.TheVariants.{Listed}
+use Rattle.std.specs.Prelude.{Ok}
 
 -- a string lies in an envelope, and its characters are the bytes that stand there
 pub record Whole (e : List ℕ) (t : TextRow) : Type 0 where
@@ -38,4 +38,4 @@ ListingWellFormed = (e : List ℕ) (h : Header) (p : ℕ) → header_of e ≡ fo
 
 -- The same of calls: the bytes that a call has written are text.
 abbrev pub WrittenIsText : Type 0
-WrittenIsText = (e out out' : List ℕ) (n : ℕ) → Answered e out out' (Listed n) → Text (take n out')
+WrittenIsText = (e out out' : List ℕ) (n : ℕ) → Answered e out out' (Ok n) → Text (take n out')

@@ -24,13 +24,13 @@ use Rattle.header_payload.specs.Answers.{scan_of}
 use Rattle.header_payload.specs.Settled.{kept, Settled}
 use Rattle.header_payload.specs.declared.HeaderScan.{HeaderScan}
 use Rattle.moves.specs.Moves.{answer, outcome_of, Answered}
-use Rattle.moves.specs.declared.MovesAnswer.{MovesAnswer}
-use Rattle.moves.specs.declared.MovesAnswer.TheVariants.{Moves, Refused}
+use Rattle.moves.specs.Answer.{MovesAnswer}
+use Rattle.std.specs.Prelude.{Ok, Err}
 
 -- the number in an answer
 abbrev pub told : MovesAnswer → ℕ
-told (Moves total) = total
-told (Refused k) = k
+told (Ok total) = total
+told (Err k) = k
 
 pub answered : (x : Step Header) {r : MovesAnswer} → r ≡ answer x → Answered x r
 answered x e = record { answers = e; reports = ap outcome_of e }
@@ -48,18 +48,18 @@ header_rooted e {h} w =
     }
 
 -- an accepted header has the sum of its moves
-pub answer_found : {x : Step Header} {h : Header} {p : ℕ} → x ≡ found h p → answer x ≡ Moves (all_moves (parents_of h.lists.fields))
+pub answer_found : {x : Step Header} {h : Header} {p : ℕ} → x ≡ found h p → answer x ≡ Ok (all_moves (parents_of h.lists.fields))
 unfolding answer
 answer_found e = rw e
 
 -- a sum is that of an accepted header
-pub answer_sum : (x : Step Header) {total : ℕ} → answer x ≡ Moves total
+pub answer_sum : (x : Step Header) {total : ℕ} → answer x ≡ Ok total
     → (h : Header) × (p : ℕ) × (x ≡ found h p) × (total ≡ all_moves (parents_of h.lists.fields))
 unfolding answer
 answer_sum (found h p) e = (h, p, refl, sym (ap told e))
 answer_sum (refused g) e = absurd (let z : ◌≡◌ {A = ℕ} 0 1 = cc in omega arith)
 
-pub answer_refused : {x : Step Header} {g : Fault} → x ≡ refused g → Answered x (Refused g.number)
+pub answer_refused : {x : Step Header} {g : Fault} → x ≡ refused g → Answered x (Err g.number)
 unfolding answer
 answer_refused {x} e = answered x (rw e)
 
@@ -84,7 +84,7 @@ module _ (e : List ℕ) {scan : HeaderScan} {q : ℕ} (w : found scan q ≡ mapp
         let l = length-replicate {A = ℕ} most_fields 0 in
         sym (ap length parents_are_lem ∙ over_length (parents_of m.value.lists.fields) (replicate most_fields 0) (omega arith) ∙ l)
 
-    pub scan_counted : {total : ℕ} → total ≡ moves_of p scan.lists.fields → Answered (header_of e) (Moves total)
+    pub scan_counted : {total : ℕ} → total ≡ moves_of p scan.lists.fields → Answered (header_of e) (Ok total)
     scan_counted sum =
         let rows = m.value.lists.fields in
         let n = count in
@@ -92,4 +92,4 @@ module _ (e : List ℕ) {scan : HeaderScan} {q : ℕ} (w : found scan q ≡ mapp
         let front : take scan.lists.fields p ≡ parents_of rows = ap (take scan.lists.fields) parents_are_lem ∙ take_at (parents_of rows) _ scan.lists.fields long in
         let few = fields_few e m.was in
         answered (header_of e)
-        (ap Moves (sum ∙ moves_front p scan.lists.fields (parents_of rows) (omega arith) front long (header_rooted e m.was)) ∙ sym (answer_found m.was))
+        (ap Ok (sum ∙ moves_front p scan.lists.fields (parents_of rows) (omega arith) front long (header_rooted e m.was)) ∙ sym (answer_found m.was))

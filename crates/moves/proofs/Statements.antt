@@ -13,26 +13,25 @@ use Rattle.chain_moves.proofs.Distances.{all_moves_as_defined, all_moves_capped,
 use Rattle.header.specs.Header.{Header}
 use Rattle.header.specs.Tables.{header_of, parents_of, room_for, tables_of}
 use Rattle.header.specs.Tables.{answer as headerAnswer}
-use Rattle.header.specs.declared.HeaderAnswer.{HeaderAnswer}
-use Rattle.header.specs.declared.HeaderAnswer.TheVariants.{Accepted as HeaderAccepted, Refused as HeaderRefused}
+use Rattle.header.specs.Answer.{HeaderAnswer}
 use Rattle.header.proofs.HeaderLaws.{fields_few}
 use Rattle.moves.specs.Moves.{answer}
 use Rattle.moves.specs.Statements.{MovesAsDefined, MovesCapped, ChainMoves, BesideReader, MovesBesideReader}
-use Rattle.moves.specs.declared.MovesAnswer.TheVariants.{Moves, Refused}
 use Rattle.moves.proofs.Laws.{told, field_count_lem, header_rooted, answer_found}
+use Rattle.std.specs.Prelude.{Ok, Err}
 
 abbrev number_in : HeaderAnswer → ℕ
-number_in (HeaderAccepted t) = 0
-number_in (HeaderRefused k) = k
+number_in (Ok t) = 0
+number_in (Err k) = k
 
-number_same : {j k : ℕ} → HeaderRefused j ≡ HeaderRefused k → j ≡ k
+number_same : {j k : ℕ} → ◌≡◌ {A = HeaderAnswer} (Err j) (Err k) → j ≡ k
 number_same e = ap number_in e
 
 pub moves_as_defined : MovesAsDefined
 moves_as_defined e h p r w call total =
-    let is : r ≡ Moves (all_moves (parents_of h.lists.fields)) = call.answers ∙ answer_found w in
+    let is : r ≡ Ok (all_moves (parents_of h.lists.fields)) = call.answers ∙ answer_found w in
     let sum = all_moves_as_defined (parents_of h.lists.fields) (header_rooted e w) total in
-    (λ q. sum.0 (ap told (sym is ∙ q)), λ s. is ∙ ap Moves (sum.1 s))
+    (λ q. sum.0 (ap told (sym is ∙ q)), λ s. is ∙ ap Ok (sum.1 s))
 
 -- as many as 512 fields can have
 most_moves_lem : (n : ℕ) → n ≤ 512 → most_moves n ≤ 130816
@@ -50,21 +49,21 @@ moves_capped e h p total w call =
 
 pub chain_moves : ChainMoves
 chain_moves e h p r w call chain =
-    call.answers ∙ answer_found w ∙ ap Moves (ap all_moves chain ∙ (chains_reach_cap (length h.lists.fields)).reached)
+    call.answers ∙ answer_found w ∙ ap Ok (ap all_moves chain ∙ (chains_reach_cap (length h.lists.fields)).reached)
 
 -- beside a call of the header's reader
 by_room : (x : Step Header) (f c a : ℕ) → BesideReader (headerAnswer f c a x) (answer x)
 unfolding headerAnswer answer
 by_room (found h p) f c a = by (room_for f c a h.lists)
   where
-    by : (b : Bool) → BesideReader (pick b (HeaderAccepted (tables_of h)) (HeaderRefused 20)) (Moves (all_moves (parents_of h.lists.fields)))
+    by : (b : Bool) → BesideReader (pick b (Ok (tables_of h)) (Err 20)) (Ok (all_moves (parents_of h.lists.fields)))
     by true = record { accepts = λ t e. (_, refl); refuses = λ k e other. absurd (let z : ◌≡◌ {A = ℕ} 0 1 = cc in omega arith); refused = λ k e. absurd (let z : ◌≡◌ {A = ℕ} 0 1 = cc in omega arith) }
     by false = record { accepts = λ t e. (_, refl); refuses = λ k e other. absurd (other (sym (number_same e))); refused = λ k e. absurd (let z : ◌≡◌ {A = ℕ} 0 1 = cc in omega arith) }
 by_room (refused g) f c a =
     record {
       accepts = λ t e. absurd (let z : ◌≡◌ {A = ℕ} 0 1 = cc in omega arith);
-      refuses = λ k e _. ap Refused (number_same e);
-      refused = λ k e. ap HeaderRefused (ap told e);
+      refuses = λ k e _. ap Err (number_same e);
+      refused = λ k e. ap Err (ap told e);
     }
 
 pub moves_beside_reader : MovesBesideReader

@@ -4,13 +4,9 @@
 ghost use Rattle.header.specs.Tables.{header_of};
 ghost use Rattle.moves.specs.Moves.{Answered};
 
-#[derive(Clone, Copy)]
-pub enum MovesAnswer {
-    // The sum over all fields of the moves from the field to its self-parented top.
-    Moves(u64),
-    // The number; the envelope is 1.
-    Refused(u16),
-}
+// The sum over all fields of the moves from the field to its self-parented top, or the number of the rule that refuses the header; the
+// envelope is 1.
+pub type MovesAnswer = Result<u64, u16>;
 
 // Reads a header with no table lent, and counts the moves along its parent chains. No field is followed twice.
 pub fn parent_moves(envelope: &[u8]) -> MovesAnswer
@@ -29,8 +25,8 @@ pub fn parent_moves(envelope: &[u8]) -> MovesAnswer
         Ok((scan, _)) => {
             let lists = scan.lists;
             let total = chain_moves::total_moves(&parents, lists.fields);
-            MovesAnswer::Moves(total as u64)
+            Ok(total as u64)
         }
-        Err(f) => MovesAnswer::Refused(f.number),
+        Err(f) => Err(f.number),
     }
 }

@@ -10,16 +10,15 @@ use borrow.Author.Tests.{le-leb, lt-leb}
 use Rattle.numbers.specs.Rows.{put, over}
 use Rattle.column_type.specs.Types.{known}
 use Rattle.outcome.specs.Outcome.{code_of}
-use Rattle.page_rules.specs.declared.PageAnswer.{PageAnswer}
-use Rattle.page_rules.specs.declared.PageAnswer.TheVariants.{Accepted as PageAccepted, Refused as PageRefused}
+use Rattle.page_rules.specs.Answer.{PageAnswer}
 use Rattle.page_rules.specs.Page.{outcome_of as page_outcome, asks, readable, refuse, decode_outcome, decoded, encode_outcome, encoded}
-use Rattle.column_rules.specs.declared.ColumnAnswer.{ColumnAnswer}
-use Rattle.column_rules.specs.declared.ColumnAnswer.TheVariants.{Decoded, Refused as ColumnRefused}
+use Rattle.column_rules.specs.Answer.{ColumnAnswer}
 use Rattle.column_rules.specs.Column.{outcome_of as columnOutcome, whole_column}
 use Rattle.column_rules.proofs.Unreadable.{unreadable_alike}
 use Rattle.answers.specs.Handed.{short_result}
 use Rattle.answers.proofs.HandedLaws.{given_room, given_short, hands_nothing, tells}
 use Rattle.page_calls.specs.Calls.{EncodeCall, ColumnCall}
+use Rattle.std.specs.Prelude.{Ok, Err}
 
 -- an unknown type is not read
 unreadable : (t : ℕ) → 28 < t → readable t ≡ false
@@ -45,8 +44,8 @@ module _ (t : ℕ) (high : 65535 < t) where
   high_encoded n checksum words start old = rw (high_encode n checksum words start (length old))
 
 page_words_lem : (r : PageAnswer) → length (page_outcome r).counts ≡ 1
-page_words_lem (PageAccepted count) = refl
-page_words_lem (PageRefused number) = refl
+page_words_lem (Ok count) = refl
+page_words_lem (Err number) = refl
 
 pub encode_short : (t n checksum : ℕ) (words : List ℕ) (start : ℕ) (p w : List ℕ) → length w < 1 → EncodeCall t n checksum words start p p w w short_result
 encode_short t n checksum words start p w short = record { hands_over = hands_nothing 1 _ _ w short; page_is = given_short 1 w _ _ short }
@@ -75,8 +74,8 @@ encode_high t n checksum words start p w high fits =
 -- decoding a column
 
 column_words_lem : (r : ColumnAnswer) → length (columnOutcome r).counts ≡ 1
-column_words_lem (Decoded pages) = refl
-column_words_lem (ColumnRefused number page) = refl
+column_words_lem (Ok pages) = refl
+column_words_lem (Err why) = refl
 
 pub column_short : (t : ℕ) (table file o w : List ℕ) → length w < 1 → ColumnCall t table file o o w w short_result
 column_short t table file o w short = record { hands_over = hands_nothing 1 _ _ w short; words_are = given_short 1 w _ _ short }

@@ -10,7 +10,7 @@ ghost use Rattle.column_rules.specs.Column.{outcome_of};
 ghost use Rattle.page_calls.specs.Calls.{EncodeCall, ColumnCall};
 
 use answers::RESULT_TOO_SHORT;
-use column_rules::ColumnAnswer;
+use column_rules::{ColumnAnswer, RefusedPage};
 
 // A column type has two bytes. Any number above is unknown, which is refused before all else: 23, in envelope 4.
 const LARGEST_TYPE: u32 = 65535;
@@ -100,11 +100,11 @@ fn tell_column(answer: ColumnAnswer, res: &mut [u64]) -> u32
     ensures leaves { res.new ≡ put res.old 0 (outcome_of answer).counts }
 {
     match answer {
-        ColumnAnswer::Decoded(pages) => {
+        Ok(pages) => {
             rows::put_words(res, 0, &[pages as u64]);
             0
         }
-        ColumnAnswer::Refused(number, page) => {
+        Err(RefusedPage { number, page }) => {
             rows::put_words(res, 0, &[page as u64]);
             1024 + number as u32
         }

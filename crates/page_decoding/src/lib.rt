@@ -49,16 +49,14 @@ pub fn decode_as(
     ensures answers { (t : ℕ) → width ≡ width_of t → outcome_of result ≡ decode_outcome t elements checksum page.now (length out.old) start }
     ensures leaves { (t : ℕ) → width ≡ width_of t → Marked t marks → out.new ≡ decoded t elements checksum page.now out.old start }
 {
-    let decoding = page_rules::answer::decode_answer(
+    let count = page_rules::answer::decode_answer(
         width,
         elements,
         checksum,
         page,
         out.len(),
         start,
-    );
-    if let PageAnswer::Accepted(_) = decoding {
-        read::fill(width, marks, elements, page, &mut out[start..]);
-    }
-    decoding
+    )?;
+    read::fill(width, marks, elements, page, &mut out[start..]);
+    Ok(count)
 }

@@ -23,17 +23,8 @@ pub fn encode_page(
     ensures leaves { page.new ≡ encoded column_type elements checksum words.now start page.old }
 {
     let t = column_type as u64;
-    let encoding = page_rules::answer::encode_answer(
-        t,
-        elements,
-        checksum,
-        words,
-        start,
-        page.len(),
-    );
-    if let PageAnswer::Accepted(size) = encoding {
-        let end = start + elements;
-        write::write_checked(t, checksum, size, &words[start..end], page);
-    }
-    encoding
+    let size = page_rules::answer::encode_answer(t, elements, checksum, words, start, page.len())?;
+    let end = start + elements;
+    write::write_checked(t, checksum, size, &words[start..end], page);
+    Ok(size)
 }

@@ -20,7 +20,7 @@ use Rattle.page_list.specs.declared.Judged.{Judged}
 use Rattle.figure_rules.specs.Report.{figure_width, list_figures}
 use Rattle.figure_rules.proofs.Accepted.{payload_small}
 use Rattle.page_figures.specs.Answers.{answer, written, Answered}
-use Rattle.page_figures.specs.declared.FiguresAnswer.TheVariants.{Summed, Refused}
+use Rattle.std.specs.Prelude.{Ok, Err}
 
 -- an accepted payload has an item for each column
 payload_columns : (file : ℕ) (table : List ℕ) (n : ℕ) (strict : Bool) (s : List ℕ) → accepted (payload file (bits_in table n) strict s 4) ≡ true → length (rows_of (payload file (bits_in table n) strict s 4)) ≡ n
@@ -31,7 +31,7 @@ payload_columns file table n strict s a = by (payload file (bits_in table n) str
     by (refused f) e h = absurd (omega (arith, leb-true 1 0 h))
 
 -- a refusal changes no row
-pub figures_refused : {x : Beside (List (List PageRow))} {k : ℕ} {f : Fault} (old : List ℕ) → x ≡ refusal k f → Answered x old old (Refused k f.number)
+pub figures_refused : {x : Beside (List (List PageRow))} {k : ℕ} {f : Fault} (old : List ℕ) → x ≡ refusal k f → Answered x old old (Err (record { envelope = k; number = f.number }))
 unfolding answer written
 figures_refused old e = record { answers = rw e; reports = rw e; figures_are = rw e }
 
@@ -40,7 +40,7 @@ module _ (file : ℕ) (table : List ℕ) (n : ℕ) (e : List ℕ) (j : Judged) (
   many : length (rows_of (listed file (bits_in table n) e j)) ≡ n
   many = payload_columns file table n j.strict (take j.stop e) a
 
-  pub figures_short : length old / figure_width < n → Answered (read (rows_of (listed file (bits_in table n) e j))) old old (Refused 3 20)
+  pub figures_short : length old / figure_width < n → Answered (read (rows_of (listed file (bits_in table n) e j))) old old (Err (record { envelope = 3; number = 20 }))
   unfolding answer written
   figures_short h =
       let c = many in
@@ -52,9 +52,9 @@ module _ (file : ℕ) (table : List ℕ) (n : ℕ) (e : List ℕ) (j : Judged) (
     figures_ready = (rw cut a, omega arith)
 
     pub figures_all : (after : List ℕ) → after ≡ over (list_figures (rows_of (payload file (bits_in table n) j.strict s 4))) old
-        → Answered (read (rows_of (listed file (bits_in table n) e j))) old after (Summed n)
+        → Answered (read (rows_of (listed file (bits_in table n) e j))) old after (Ok n)
     unfolding answer written
     figures_all after stored =
         let c = many in
         let room = le-leb (length (rows_of (listed file (bits_in table n) e j))) (length old / figure_width) (omega arith) in
-        record { answers = rw room (ap Summed (sym c)); reports = rw room (ap (λ (k : ℕ). accepted_with (k ∷ [])) (sym c)); figures_are = rw room (stored ∙ ap (λ (x : List ℕ). over (list_figures (rows_of (payload file (bits_in table n) j.strict x 4))) old) cut) }
+        record { answers = rw room (ap Ok (sym c)); reports = rw room (ap (λ (k : ℕ). accepted_with (k ∷ [])) (sym c)); figures_are = rw room (stored ∙ ap (λ (x : List ℕ). over (list_figures (rows_of (payload file (bits_in table n) j.strict x 4))) old) cut) }

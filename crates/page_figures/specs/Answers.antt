@@ -7,8 +7,8 @@ use Rattle.header.specs.Beside.{Beside, read, refusal}
 use Rattle.rows.specs.declared.PageRow.{PageRow}
 use Rattle.figure_rules.specs.Report.{list_figures, rows_for}
 use Rattle.page_figures.specs.declared.Figures.{Figures}
-use Rattle.page_figures.specs.declared.FiguresAnswer.{FiguresAnswer}
-use Rattle.page_figures.specs.declared.FiguresAnswer.TheVariants.{Summed, Refused}
+use Rattle.page_figures.specs.Answer.{FiguresAnswer}
+use Rattle.std.specs.Prelude.{Ok, Err}
 
 -- the words of a row
 abbrev pub figure_words : Figures → List ℕ
@@ -16,13 +16,13 @@ figure_words f = f.pages ∷ f.elements ∷ f.sizes ∷ f.checksums ∷ []
 
 -- the answer in document 01's terms: the envelope and the number of a refusal, and the count of columns
 abbrev pub outcome_of : FiguresAnswer → Outcome
-outcome_of (Summed columns) = accepted_with (columns ∷ [])
-outcome_of (Refused k r) = refused_in k r 1
+outcome_of (Ok columns) = accepted_with (columns ∷ [])
+outcome_of (Err why) = refused_in why.envelope why.number 1
 
 -- the whole answer, for lent rows of n words: the reader's refusals, but room is that of the rows
 unfoldable pub answer : ℕ → Beside (List (List PageRow)) → FiguresAnswer
-answer n (read pss) = pick (rows_for n (length pss)) (Summed (length pss)) (Refused 3 20)
-answer n (refusal k f) = Refused k f.number
+answer n (read pss) = pick (rows_for n (length pss)) (Ok (length pss)) (Err (record { envelope = 3; number = 20 }))
+answer n (refusal k f) = Err (record { envelope = k; number = f.number })
 
 -- the lent rows after the call: the figures in front where the page list is accepted, else as they were
 unfoldable pub written : List ℕ → Beside (List (List PageRow)) → List ℕ

@@ -11,15 +11,11 @@ ghost use Rattle.page_list.specs.Tables.{page_list_beside};
 ghost use Rattle.page_list.specs.Judged.{listed};
 ghost use Rattle.page_figures.specs.Answers.{Answered};
 
+use header::Refusal;
 use page_list::Judged;
 
-#[derive(Clone, Copy)]
-pub enum FiguresAnswer {
-    // How many columns there are, one row of figures to each.
-    Summed { columns: usize },
-    // The envelope, 1 or 3, and the number.
-    Refused(u16, u16),
-}
+// How many columns there are, one row of figures to each, or a refusal.
+pub type FiguresAnswer = Result<usize, Refusal>;
 
 // The figures of a column's pages.
 #[derive(Clone, Copy)]
@@ -61,10 +57,16 @@ pub fn page_figures(
                 Ok(judged) => {
                     write_figures(page_list, judged, &rows, columns, file_length, figures)
                 }
-                Err(f) => FiguresAnswer::Refused(3, f.number),
+                Err(f) => Err(Refusal {
+                    envelope: 3,
+                    number: f.number,
+                }),
             }
         }
-        Err(f) => FiguresAnswer::Refused(1, f.number),
+        Err(f) => Err(Refusal {
+            envelope: 1,
+            number: f.number,
+        }),
     }
 }
 
@@ -83,7 +85,10 @@ fn write_figures(
     if n <= figures.len() / figure_rules::FIGURE_WORDS {
         let s = frames::up_to(e, judged.stop);
         sums::sum_payload(figures, s, judged.strict, rows, n, file);
-        return FiguresAnswer::Summed { columns: n };
+        return Ok(n);
     }
-    FiguresAnswer::Refused(3, 20)
+    Err(Refusal {
+        envelope: 3,
+        number: 20,
+    })
 }

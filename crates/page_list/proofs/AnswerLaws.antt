@@ -18,10 +18,9 @@ use Rattle.page_list.specs.Tables.{page_table, answer, written, Answered}
 use Rattle.page_list.specs.Judged.{listed, Stands, Judges}
 use Rattle.page_list.specs.declared.Judged.{Judged}
 use Rattle.std.specs.Prelude.{Ok, Err}
-use Rattle.page_list.specs.declared.PageListAnswer.TheVariants.{Accepted, Refused}
 
 -- a refusal changes no table
-pub beside_refused : {x : Beside (List (List PageRow))} {k : ℕ} {f : Fault} (p : List ℕ) → x ≡ refusal k f → Answered x p p (Refused k f.number)
+pub beside_refused : {x : Beside (List (List PageRow))} {k : ℕ} {f : Fault} (p : List ℕ) → x ≡ refusal k f → Answered x p p (Err (record { envelope = k; number = f.number }))
 unfolding answer written
 beside_refused p e = record { answers = rw e; reports = rw e; pages_are = rw e }
 
@@ -50,17 +49,17 @@ agrees file bits e (refused f) t = absurd t
 
 -- a table with too little room, and one with room
 
-pub read_short : (pss : List (List PageRow)) (p : List ℕ) {k : ℕ} → k ≡ pages_of pss → length p / page_width < k → Answered (read pss) p p (Refused 3 20)
+pub read_short : (pss : List (List PageRow)) (p : List ℕ) {k : ℕ} → k ≡ pages_of pss → length p / page_width < k → Answered (read pss) p p (Err (record { envelope = 3; number = 20 }))
 unfolding answer written
 read_short pss p c h =
     let short = lt-leb (pages_of pss) (length p / page_width) (omega arith) in
     record { answers = rw short; reports = rw short; pages_are = rw short }
 
-pub read_all : (pss : List (List PageRow)) (p p' : List ℕ) {k : ℕ} → k ≡ pages_of pss → k ≤ length p / page_width → p' ≡ over (page_table pss) p → Answered (read pss) p p' (Accepted k)
+pub read_all : (pss : List (List PageRow)) (p p' : List ℕ) {k : ℕ} → k ≡ pages_of pss → k ≤ length p / page_width → p' ≡ over (page_table pss) p → Answered (read pss) p p' (Ok k)
 unfolding answer written
 read_all pss p p' c h stored =
     let room = le-leb (pages_of pss) (length p / page_width) (omega arith) in
-    record { answers = rw room (ap Accepted c); reports = rw room (ap (λ (x : ℕ). accepted_with (x ∷ [])) c); pages_are = rw room stored }
+    record { answers = rw room (ap Ok c); reports = rw room (ap (λ (x : ℕ). accepted_with (x ∷ [])) c); pages_are = rw room stored }
 
 -- what is accepted can be written to a table with room
 pub fill_ready : (file : ℕ) (bits e s : List ℕ) (j : Judged) {words : ℕ} → s ≡ take j.stop e → accepted (listed file bits e j) ≡ true → j.pages ≡ pages_of (rows_of (listed file bits e j)) → j.pages ≤ words / page_width

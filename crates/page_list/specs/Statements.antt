@@ -1,13 +1,13 @@
 -- What the outcome of a page list's reader tells of its answer.
 use Rattle.std.specs.Prelude.{ℕ, ◌≤◌, ◌≡◌}
 use Rattle.page_list.specs.Tables.{outcome_of}
-use Rattle.page_list.specs.declared.PageListAnswer.{PageListAnswer}
-use Rattle.page_list.specs.declared.PageListAnswer.TheVariants.{Accepted, Refused}
+use Rattle.page_list.specs.Answer.{PageListAnswer}
+use Rattle.std.specs.Prelude.{Ok, Err}
 
 -- a refusal names an envelope; envelopes are numbered from 1
 abbrev pub Named : PageListAnswer → Type 0
-Named (Accepted pages) = Unit {0}
-Named (Refused envelope number) = 1 ≤ envelope
+Named (Ok pages) = Unit {0}
+Named (Err why) = 1 ≤ why.envelope
 
 -- two answers that say the same are the same
 unfoldable pub OutcomeTells : Type 0

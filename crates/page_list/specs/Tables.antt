@@ -9,8 +9,8 @@ use Rattle.header.specs.Beside.{Beside, read, refusal, beside}
 use Rattle.column_pages.specs.ColumnPages.{pages_of}
 use Rattle.page_list.specs.PageList.{page_list_of}
 use Rattle.rows.specs.declared.PageRow.{PageRow}
-use Rattle.page_list.specs.declared.PageListAnswer.{PageListAnswer}
-use Rattle.page_list.specs.declared.PageListAnswer.TheVariants.{Accepted, Refused}
+use Rattle.page_list.specs.Answer.{PageListAnswer}
+use Rattle.std.specs.Prelude.{Ok, Err}
 
 -- the page list read beside its header: the header's refusal first
 unfoldable pub page_list_beside : List ℕ → List ℕ → ℕ → ℕ → Beside (List (List PageRow))
@@ -26,13 +26,13 @@ room_for n pss = leb (pages_of pss) (n / page_width)
 
 -- the whole answer, for a lent table of n words
 unfoldable pub answer : ℕ → Beside (List (List PageRow)) → PageListAnswer
-answer n (read pss) = pick (room_for n pss) (Accepted (pages_of pss)) (Refused 3 20)
-answer n (refusal k f) = Refused k f.number
+answer n (read pss) = pick (room_for n pss) (Ok (pages_of pss)) (Err (record { envelope = 3; number = 20 }))
+answer n (refusal k f) = Err (record { envelope = k; number = f.number })
 
 -- the answer in document 01's terms: the envelope and the number of a refusal, and the count of pages
 abbrev pub outcome_of : PageListAnswer → Outcome
-outcome_of (Accepted pages) = accepted_with (pages ∷ [])
-outcome_of (Refused k r) = refused_in k r 1
+outcome_of (Ok pages) = accepted_with (pages ∷ [])
+outcome_of (Err why) = refused_in why.envelope why.number 1
 
 -- the outcome that is due, for a lent table of n words
 abbrev pub reported : ℕ → Beside (List (List PageRow)) → Outcome

@@ -13,18 +13,18 @@ use Rattle.numbers.specs.Rows.{over}
 use Rattle.numbers.proofs.Parts.{over_length}
 use Rattle.wire.specs.declared.Fault.{Fault}
 use Rattle.header.specs.Beside.{Beside, read, refusal}
+use Rattle.header.specs.declared.Refusal.{Refusal}
 use Rattle.rows.specs.Words.{most_columns}
 use Rattle.rows.specs.declared.PageRow.{PageRow}
 use Rattle.page_list.specs.Tables.{page_list_beside}
 use Rattle.figure_rules.specs.declared.ListCounts.{ListCounts}
-use Rattle.figure_rules.specs.declared.ReportAnswer.TheVariants.{Refused}
 use Rattle.figure_rules.specs.Report.{figure_width, list_figures, rows_for, one_refused, placed, taken, most_lists, reported}
 use Rattle.figure_rules.proofs.Accepted.{read_beside_lem}
 use Rattle.figure_rules.proofs.Figures.{figures_length}
 use Rattle.figure_rules.proofs.Tests.{reported_taken}
 use Rattle.page_figures.specs.Answers.{answer, written, Answered}
-use Rattle.page_figures.specs.declared.FiguresAnswer.{FiguresAnswer}
-use Rattle.page_figures.specs.declared.FiguresAnswer.TheVariants.{Summed, Refused as FiguresRefused}
+use Rattle.page_figures.specs.Answer.{FiguresAnswer}
+use Rattle.std.specs.Prelude.{Ok, Err}
 
 -- a sum is below m where its second part is below what the first leaves of m
 pub below_rest : (a b m : ℕ) → a < m → ltb b (m - a) ≡ ltb (a + b) m
@@ -38,8 +38,17 @@ below_rest a b m h = by (ltb b (m - a)) refl
 abbrev zeros : List ℕ
 zeros = replicate (figure_width * most_columns) 0
 
-summed_not_refused : {n k m : ℕ} → Summed n ≡ FiguresRefused k m → ⊥
+summed_not_refused : {n : ℕ} {why : Refusal} → ◌≡◌ {A = FiguresAnswer} (Ok n) (Err why) → ⊥
 summed_not_refused e = let z : ◌≡◌ {A = ℕ} 0 1 = cc in omega arith
+
+-- a refusal in envelope k by rule m
+abbrev refused_by : ℕ → ℕ → FiguresAnswer
+refused_by k m = Err (record { envelope = k; number = m })
+
+-- what a refusal says; an acceptance is given zeros
+abbrev said : FiguresAnswer → Refusal
+said (Ok n) = record { envelope = 0; number = 0 }
+said (Err why) = why
 
 -- a list that was summed up: its columns, and their figures in front of the rows
 pub record SummedUp (x : Beside (List (List PageRow))) (n : ℕ) (f : List ℕ) : Type 0 where
@@ -50,12 +59,12 @@ pub record SummedUp (x : Beside (List (List PageRow))) (n : ℕ) (f : List ℕ) 
   pub long : length f ≡ figure_width * most_columns
   pub front : take (figure_width * n) f ≡ list_figures value
 
-pub summed_up : (x : Beside (List (List PageRow))) {f : List ℕ} {r : FiguresAnswer} {n : ℕ} → Answered x zeros f r → r ≡ Summed n → SummedUp x n f
+pub summed_up : (x : Beside (List (List PageRow))) {f : List ℕ} {r : FiguresAnswer} {n : ℕ} → Answered x zeros f r → r ≡ Ok n → SummedUp x n f
 unfolding answer written
 summed_up (read pss) {f} {r} {n} a e =
     by (rows_for (length zeros) (length pss)) refl (sym e ∙ a.answers) a.figures_are
   where
-    by : (b : Bool) → rows_for (length zeros) (length pss) ≡ b → Summed n ≡ pick b (Summed (length pss)) (FiguresRefused 3 20) → f ≡ pick b (over (list_figures pss) zeros) zeros
+    by : (b : Bool) → rows_for (length zeros) (length pss) ≡ b → Ok n ≡ pick b (Ok (length pss)) (refused_by 3 20) → f ≡ pick b (over (list_figures pss) zeros) zeros
         → SummedUp (read pss) n f
     by true room same stored =
         let many : n ≡ length pss = cc in
@@ -80,11 +89,11 @@ pub record RefusedUp (x : Beside (List (List PageRow))) (k m : ℕ) : Type 0 whe
   pub number : m ≡ fault.number
 
 pub refused_up : (x : Beside (List (List PageRow))) {f : List ℕ} {r : FiguresAnswer} {k m : ℕ} → ((pss : List (List PageRow)) → x ≡ read pss → length pss ≤ most_columns)
-    → Answered x zeros f r → r ≡ FiguresRefused k m → RefusedUp x k m
+    → Answered x zeros f r → r ≡ Err (record { envelope = k; number = m }) → RefusedUp x k m
 unfolding answer
 refused_up (read pss) {f} {r} {k} {m} few a e = by (rows_for (length zeros) (length pss)) refl (sym a.answers ∙ e)
   where
-    by : (b : Bool) → rows_for (length zeros) (length pss) ≡ b → pick b (Summed (length pss)) (FiguresRefused 3 20) ≡ FiguresRefused k m → RefusedUp (read pss) k m
+    by : (b : Bool) → rows_for (length zeros) (length pss) ≡ b → pick b (Ok (length pss)) (refused_by 3 20) ≡ refused_by k m → RefusedUp (read pss) k m
     by true room same = absurd (summed_not_refused same)
     by false room same =
         let all = length-replicate {A = ℕ} (figure_width * most_columns) 0 in
@@ -92,15 +101,15 @@ refused_up (read pss) {f} {r} {k} {m} few a e = by (rows_for (length zeros) (len
         let most = few pss refl in
         absurd (omega arith)
 refused_up (refusal i g) {f} {r} {k} {m} few a e =
-    let same : FiguresRefused i g.number ≡ FiguresRefused k m = sym a.answers ∙ e in
-    let envelope : i ≡ k = cc in
-    let number : g.number ≡ m = cc in
+    let same : refused_by i g.number ≡ refused_by k m = sym a.answers ∙ e in
+    let envelope : i ≡ k = ap (λ (r : FiguresAnswer). (said r).envelope) same in
+    let number : g.number ≡ m = ap (λ (r : FiguresAnswer). (said r).number) same in
     record { fault = g; was = ap (λ (j : ℕ). refusal j g) envelope; number = sym number }
 
 -- the call, after so many lists
 module _ (header list : List ℕ) (entries file : ℕ) (counts : ListCounts) (old : List ℕ) (more : counts.accepted + counts.refused < most_lists) {f : List ℕ} {r : FiguresAnswer}
     (a : Answered (page_list_beside header list entries file) zeros f r) where
-  module _ {n : ℕ} (e : r ≡ Summed n) where
+  module _ {n : ℕ} (e : r ≡ Ok n) where
     pub its_figures : SummedUp (page_list_beside header list entries file) n f
     its_figures = summed_up (page_list_beside header list entries file) a e
 
@@ -112,10 +121,10 @@ module _ (header list : List ℕ) (entries file : ℕ) (counts : ListCounts) (ol
         ∙ ap (λ (x : Beside (List (List PageRow))). taken x counts old) s.was
         ∙ (λ j. placed (sym s.many j) (sym s.front j) counts old)
 
-  pub reported_refused : {k m : ℕ} → r ≡ FiguresRefused k m → reported (page_list_beside header list entries file) counts old ≡ record { answer = Refused k m (one_refused counts); words = old }
+  pub reported_refused : {k m : ℕ} → r ≡ Err (record { envelope = k; number = m }) → reported (page_list_beside header list entries file) counts old ≡ record { answer = Err (record { envelope = k; number = m; lists = one_refused counts }); words = old }
   unfolding taken
   reported_refused {k} {m} e =
       let s = refused_up (page_list_beside header list entries file) (λ pss was. (read_beside_lem header list entries file pss was).small.few) a e in
       reported_taken (page_list_beside header list entries file) counts old more
       ∙ ap (λ (x : Beside (List (List PageRow))). taken x counts old) s.was
-      ∙ (λ j. record { answer = Refused k (sym s.number j) (one_refused counts); words = old })
+      ∙ (λ j. record { answer = Err (record { envelope = k; number = sym s.number j; lists = one_refused counts }); words = old })

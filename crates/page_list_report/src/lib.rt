@@ -7,8 +7,8 @@ ghost use Rattle.std.specs.Prelude.{◌≡◌, ◌+◌, ◌*◌, ◌<◌, ltb, l
 ghost use Rattle.page_list.specs.Tables.{page_list_beside};
 ghost use Rattle.figure_rules.specs.Report.{outcome_of, figure_width, placed, most_lists, reported};
 
-use figure_rules::{FIGURE_WORDS, ListCounts, MOST_LISTS, ReportAnswer};
-use page_figures::FiguresAnswer;
+use figure_rules::{FIGURE_WORDS, ListCounts, MOST_LISTS, RefusedReport, ReportAnswer};
+use header::Refusal;
 
 // The figures of as many columns as a header may have.
 const MOST_FIGURES: usize = FIGURE_WORDS * rows::MOST_COLUMNS;
@@ -28,20 +28,28 @@ pub fn report_page_list(
     ensures leaves { report.new ≡ (reported (page_list_beside header.now page_list.now entries file_length) counts report.old).words }
 {
     if !takes_more(counts) {
-        return ReportAnswer::Refused(3, 10, counts);
+        return Err(RefusedReport {
+            envelope: 3,
+            number: 10,
+            lists: counts,
+        });
     }
     let mut figures = [0u64; MOST_FIGURES];
     match page_figures::page_figures(header, page_list, entries, file_length, &mut figures) {
-        FiguresAnswer::Summed { columns } => {
+        Ok(columns) => {
             let words = FIGURE_WORDS * columns;
             place(columns, &figures[..words], counts, report)
         }
-        FiguresAnswer::Refused(envelope, number) => {
+        Err(Refusal { envelope, number }) => {
             let one_refused = ListCounts {
                 accepted: counts.accepted,
                 refused: counts.refused + 1,
             };
-            ReportAnswer::Refused(envelope, number, one_refused)
+            Err(RefusedReport {
+                envelope,
+                number,
+                lists: one_refused,
+            })
         }
     }
 }
@@ -63,15 +71,23 @@ fn place(columns: usize, figures: &[u64], counts: ListCounts, report: &mut [u64]
     ensures leaves { report.new ≡ (placed columns figures.now counts report.old).words }
 {
     if report.len() / FIGURE_WORDS < columns {
-        return ReportAnswer::Refused(3, 20, counts);
+        return Err(RefusedReport {
+            envelope: 3,
+            number: 20,
+            lists: counts,
+        });
     }
     if !sums::all_fit(figures, report) {
-        return ReportAnswer::Refused(3, 10, counts);
+        return Err(RefusedReport {
+            envelope: 3,
+            number: 10,
+            lists: counts,
+        });
     }
     sums::add_all(figures, report);
     let one_accepted = ListCounts {
         accepted: counts.accepted + 1,
         refused: counts.refused,
     };
-    ReportAnswer::Added(one_accepted)
+    Ok(one_accepted)
 }

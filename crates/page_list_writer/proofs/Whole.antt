@@ -22,14 +22,14 @@ use Rattle.writing.specs.Rows.{page_words_at, page_rows_in}
 use Rattle.writing.specs.PageList.{by_column, in_column_order, page_list_payload_piece, pages_say, totals_number, counting_all, page_list_piece}
 use Rattle.writing.specs.Answers.{Answered}
 use Rattle.writing.specs.Promises.{PageListPromised}
-use Rattle.writing.specs.declared.WriteAnswer.{WriteAnswer}
-use Rattle.writing.specs.declared.WriteAnswer.TheVariants.{Written, Refused}
+use Rattle.writing.specs.Answer.{WriteAnswer}
 use Rattle.writing.proofs.Sure.{first_none}
 use Rattle.writing.proofs.PageListBack.{page_list_promised}
 use Rattle.page_list_check.proofs.WholeLaws.{Number}
 use Rattle.stores.specs.Stored.{InFront}
 use Rattle.stores.proofs.Answers.{Exact, length_first, long_answer, number_answer, room_answer, written_answer}
 use Rattle.stores.proofs.Counting.{counted}
+use Rattle.std.specs.Prelude.{Ok, Err}
 
 module _ (entries file : ℕ) (parents flags columns table out : List ℕ) (n : ℕ) (h : Header) (o : SchemaOf h.lists parents flags columns n) where
   abbrev x : Piece
@@ -79,18 +79,18 @@ module _ (entries file : ℕ) (parents flags columns table out : List ℕ) (n : 
         let sum : 16 + (n * 8 + length table / 5 * 16) ≡ 8 + (8 + 8 * length h.lists.columns + 16 * length (page_rows_in table)) = omega (arith, count, many) in
         its ∙ ap capped sum
 
-    pub list_long : ceiling < long → Answers out (Refused 3 1)
+    pub list_long : ceiling < long → Answers out (Err (record { envelope = 3; number = 1 }))
     list_long big = long_answer 3 x out (rest n) (number_is_lem refl) long (counted x.long long long_is) big
 
     module _ (short : long ≤ ceiling) {number : ℕ} (is : Number file entries parents flags columns table n number) where
-      pub list_refused_lem : (number ≡ 0 → ⊥) → Answers out (Refused 3 number)
+      pub list_refused_lem : (number ≡ 0 → ⊥) → Answers out (Err (record { envelope = 3; number = number }))
       list_refused_lem bad = number_answer 3 x out number (number_is_lem (is h.lists o)) long (counted x.long long long_is) short bad
 
-      pub list_roomless : number ≡ 0 → length out < long → Answers out (Refused 3 20)
+      pub list_roomless : number ≡ 0 → length out < long → Answers out (Err (record { envelope = 3; number = 20 }))
       list_roomless good few = room_answer 3 x out number (number_is_lem (is h.lists o)) long (counted x.long long long_is) short good few
 
       pub list_written : {out' : List ℕ} → number ≡ 0 → long ≤ length out
           → (in_column_order n 0 (page_rows_in table) ≡ true → (file : ℕ) (bits : List ℕ) → InFront (enveloped 1 1 (page_list_payload_piece file bits (by_column 0 n (page_rows_in table)))) out out')
-          → Answers out' (Written long)
+          → Answers out' (Ok long)
       list_written {out'} good enough stands =
           written_answer 3 x out number (number_is_lem (is h.lists o)) long (counted x.long long long_is) short out' exact good enough (stands_there (stands (in_order_lem (is h.lists o) good) file bits))

@@ -10,6 +10,7 @@ ghost use Rattle.writing.specs.Rows.{page_rows_in};
 ghost use Rattle.writing.specs.PageList.{page_list_piece};
 ghost use Rattle.writing.specs.Answers.{Answered, page_list_to_write};
 
+use header::Refusal;
 use writing::WriteAnswer;
 
 // Writes the page list of a lent table (5 words to a page) beside a header, over the first of the lent bytes. What is refused leaves these as
@@ -42,7 +43,10 @@ pub fn write_page_list(
                 out,
             )
         }
-        Err(f) => WriteAnswer::Refused(1, f.number),
+        Err(f) => Err(Refusal {
+            envelope: 1,
+            number: f.number,
+        }),
     }
 }
 
@@ -62,17 +66,26 @@ fn write_beside(
 {
     let long = page_list_check::page_list_long(n, pages.len() / rows::PAGE_WORDS);
     if verdicts::CEILING < long {
-        return WriteAnswer::Refused(3, 1);
+        return Err(Refusal {
+            envelope: 3,
+            number: 1,
+        });
     }
     let number = page_list_check::page_list_number(
         parents, flags, columns, n, entries, file, pages,
     );
     if number != 0 {
-        return WriteAnswer::Refused(3, number);
+        return Err(Refusal {
+            envelope: 3,
+            number,
+        });
     }
     if out.len() < long {
-        return WriteAnswer::Refused(3, 20);
+        return Err(Refusal {
+            envelope: 3,
+            number: 20,
+        });
     }
     write::write_envelope(pages, n, out);
-    WriteAnswer::Written(long)
+    Ok(long)
 }

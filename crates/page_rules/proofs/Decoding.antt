@@ -11,7 +11,6 @@ use lib.Dec.{leb, ltb, eqb, lit<}
 use lib.ListN.{length, take, drop, get_or}
 use Rattle.numbers.specs.Rows.{over}
 use Rattle.numbers.specs.Choice.{pick}
-use Rattle.page_rules.specs.declared.PageAnswer.TheVariants.{Accepted, Refused}
 use Rattle.numbers.specs.Numbers.{trailer}
 use Rattle.page_rules.specs.Page.{readable, size_of, checksum_right, unused_clear, decode_outcome, decoded, elements, most_elements, OutcomeTells, accept, refuse, unless, asked, RefusedBy, DecodeNumbers}
 use Rattle.outcome.specs.Outcome.{Outcome, is_accepted, RefusalTells}
@@ -19,13 +18,14 @@ use Rattle.outcome.proofs.Outcomes.{refusal_tells}
 use Rattle.coding.proofs.Plain.{little_single}
 use lib.Pow.{pow_pos}
 use borrow.Author.Tests.{leb-true, eqb-true, le-leb, lt-leb, eq-eqb, ne_eqb}
+use Rattle.std.specs.Prelude.{Ok, Err}
 
 pub outcome_tells : OutcomeTells
 unfolding OutcomeTells RefusalTells
-outcome_tells (Accepted m) (Accepted k) e = ap Accepted (ap (λ (o : Outcome). get_or o.counts 0 0) e)
-outcome_tells (Accepted m) (Refused k) e = absurd (refusal_tells 4 k 1 (m ∷ []) (lit< tt) (sym e))
-outcome_tells (Refused m) (Accepted k) e = absurd (refusal_tells 4 m 1 (k ∷ []) (lit< tt) e)
-outcome_tells (Refused m) (Refused k) e = ap Refused (ap (λ (o : Outcome). o.number) e)
+outcome_tells (Ok m) (Ok k) e = ap Ok (ap (λ (o : Outcome). get_or o.counts 0 0) e)
+outcome_tells (Ok m) (Err k) e = absurd (refusal_tells 4 k 1 (m ∷ []) (lit< tt) (sym e))
+outcome_tells (Err m) (Ok k) e = absurd (refusal_tells 4 m 1 (k ∷ []) (lit< tt) e)
+outcome_tells (Err m) (Err k) e = ap Err (ap (λ (o : Outcome). o.number) e)
 
 -- one test more, one number more
 

@@ -1,5 +1,5 @@
 -- What a page call answers, and what it leaves in the lent words and bytes.
-use Rattle.std.specs.Prelude.{ℕ, ◌+◌, ◌/◌, ◌%◌, ◌^◌, List, [], ◌∷◌, ◌++◌, map, ◌≡◌, ◌⊎◌, Bool, true, not, length, take, drop, ltb, leb, eqb}
+use Rattle.std.specs.Prelude.{ℕ, ◌+◌, ◌/◌, ◌%◌, ◌^◌, List, [], ◌∷◌, ◌++◌, map, ◌≡◌, ◌⊎◌, Bool, true, not, length, take, drop, ltb, leb, eqb, Ok, Err}
 use Rattle.numbers.specs.Choice.{pick, both}
 use Rattle.numbers.specs.Numbers.{little, bytes_for, trailer}
 use Rattle.numbers.specs.Rows.{over}
@@ -7,8 +7,7 @@ use Rattle.outcome.specs.Outcome.{Outcome, accepted_with, refused_in, is_accepte
 use Rattle.checksum.specs.Crc.{crc32}
 use Rattle.column_type.specs.Types.{known, width_of, split, delta, zigzag}
 use Rattle.coding.specs.Layout.{sums, unzigzagged, bytes_of, unplain, unplanes, packed, unpacked, coded_by, laid_out, fit}
-use Rattle.page_rules.specs.declared.PageAnswer.{PageAnswer}
-use Rattle.page_rules.specs.declared.PageAnswer.TheVariants.{Accepted, Refused}
+use Rattle.page_rules.specs.Answer.{PageAnswer}
 
 -- a page call has one count, and a page is envelope 4
 
@@ -19,8 +18,8 @@ abbrev pub refuse : ℕ → Outcome
 refuse k = refused_in 4 k 1
 
 abbrev pub outcome_of : PageAnswer → Outcome
-outcome_of (Accepted m) = accept m
-outcome_of (Refused k) = refuse k
+outcome_of (Ok m) = accept m
+outcome_of (Err k) = refuse k
 
 -- an answer is told by what it says
 unfoldable pub OutcomeTells : Type 0

@@ -109,25 +109,25 @@ pub fn decode_answer(
     ensures fits { is_accepted (outcome_of result) ≡ true → FitsWidth width n page.now words start }
 {
     if !is_readable(width) {
-        return PageAnswer::Refused(23);
+        return Err(23);
     }
     if MOST_ELEMENTS < n {
-        return PageAnswer::Refused(10);
+        return Err(10);
     }
     let size = page_size(width, n);
     if page.len() != size + numbers::trailer_size(checksum) {
-        return PageAnswer::Refused(21);
+        return Err(21);
     }
     if !checksum_right(checksum, size, page) {
-        return PageAnswer::Refused(22);
+        return Err(22);
     }
     if !unused_clear(width, n, page) {
-        return PageAnswer::Refused(24);
+        return Err(24);
     }
     if has_room(words, start, n) {
-        PageAnswer::Accepted(n)
+        Ok(n)
     } else {
-        PageAnswer::Refused(20)
+        Err(20)
     }
 }
 
@@ -136,12 +136,12 @@ pub fn outside_answer(width: u64, n: usize) -> PageAnswer
     ensures { (t : ℕ) → width ≡ width_of t → outcome_of result ≡ asked t n (refuse 18) }
 {
     if !is_readable(width) {
-        return PageAnswer::Refused(23);
+        return Err(23);
     }
     if MOST_ELEMENTS < n {
-        return PageAnswer::Refused(10);
+        return Err(10);
     }
-    PageAnswer::Refused(18)
+    Err(18)
 }
 
 pub fn encode_answer(
@@ -156,22 +156,22 @@ pub fn encode_answer(
 {
     let width = column_type::width_of(column_type);
     if !is_readable(width) {
-        return PageAnswer::Refused(23);
+        return Err(23);
     }
     if MOST_ELEMENTS < n {
-        return PageAnswer::Refused(10);
+        return Err(10);
     }
     if !has_room(words.len(), start, n) {
-        return PageAnswer::Refused(20);
+        return Err(20);
     }
     let size = page_size(width, n) + numbers::trailer_size(checksum);
     if room < size {
-        return PageAnswer::Refused(20);
+        return Err(20);
     }
     let end = start + n;
     if all_fit(width, &words[start..end]) {
-        PageAnswer::Accepted(size)
+        Ok(size)
     } else {
-        PageAnswer::Refused(25)
+        Err(25)
     }
 }

@@ -4,9 +4,5 @@
 pub mod answer;
 pub mod number;
 
-#[derive(Clone, Copy)]
-pub enum PageAnswer {
-    // Decoding: how many elements were written. Encoding: how many bytes.
-    Accepted(usize),
-    Refused(u16),
-}
+// Decoding: how many elements were written. Encoding: how many bytes. Else the number of the rule that refuses the page; the envelope is 4.
+pub type PageAnswer = Result<usize, u16>;

@@ -7,6 +7,7 @@ ghost use Rattle.page_list.specs.Tables.{Answered};
 ghost use Rattle.pairing.specs.Paired.{paired_beside};
 ghost use Rattle.pairing.specs.Stale.{stale, stale_fault, stale_beside};
 
+use header::Refusal;
 use page_list::PageListAnswer;
 
 // The page list ends with a checksum, the row has one, and they differ.
@@ -45,8 +46,14 @@ fn refuse_stale(header: &[u8], page_list: &[u8]) -> PageListAnswer
     let schema = header_schema::read_schema(header);
     let verdict = schema.verdict;
     match verdict {
-        Ok(()) => PageListAnswer::Refused(3, stale_number(page_list)),
-        Err(f) => PageListAnswer::Refused(1, f.number),
+        Ok(()) => Err(Refusal {
+            envelope: 3,
+            number: stale_number(page_list),
+        }),
+        Err(f) => Err(Refusal {
+            envelope: 1,
+            number: f.number,
+        }),
     }
 }
 

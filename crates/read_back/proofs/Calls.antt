@@ -22,12 +22,10 @@ use Rattle.header.specs.Tables.{header_of}
 use Rattle.header.proofs.Besides.{both_read_is}
 use Rattle.footer.specs.Footer.{Footer, footer_of}
 use Rattle.footer.specs.Tables.{beside_by_build}
-use Rattle.footer.specs.declared.FooterAnswer.TheVariants.{Accepted as AcceptedFooter}
 use Rattle.column_pages.specs.ColumnPages.{pages_of}
 use Rattle.page_list.specs.PageList.{page_list_of}
 use Rattle.page_list.specs.Tables.{page_list_beside, answer, written, Answered as PageListRead}
-use Rattle.page_list.specs.declared.PageListAnswer.{PageListAnswer}
-use Rattle.page_list.specs.declared.PageListAnswer.TheVariants.{Accepted as AcceptedPages}
+use Rattle.page_list.specs.Answer.{PageListAnswer}
 use Rattle.tree.specs.Shape.{chars}
 use Rattle.tree.specs.HeaderTree.{HeaderContent, field_content, header_content}
 use Rattle.tree.proofs.HeaderCalls.{answer_of, roomy_call}
@@ -45,6 +43,7 @@ use Rattle.writing.proofs.ColumnOrder.{in_order_of_columns}
 use Rattle.writing.proofs.PageListBack.{page_list_promised, out_of_order}
 use Rattle.read_back.specs.Calls.{HeaderReadBack, FooterReadBack, PageListReadBack}
 use Rattle.read_back.proofs.Written.{is_written_lem, beside_header_lem}
+use Rattle.std.specs.Prelude.{Ok}
 
 all_count : {A : Type 0} (row : List ℕ → ℕ → A) (width : ℕ) (table : List ℕ) → length (all_rows row width table) ≡ rows_in width table
 all_count row width table = rows_length row table (rows_in width table)
@@ -70,7 +69,7 @@ footer_read_back header file clusters metadata out₀ out n call c₀ c m₀ m r
     let fits_m = fitting link_width (length f.metadata) m₀ (rows_in link_width metadata) countM roomM in
     let left = footer_left _ f c₀ c m₀ m r whole (rw (fitsC, fits_m) refl) reading in
     record {
-      accepts = left.answers ∙ (λ i. AcceptedFooter (count_c i) (countM i));
+      accepts = left.answers ∙ (λ i. Ok (record { clusters = count_c i; metadata = countM i }));
       clusters_are = (λ i. first_rows cluster_row (left.clusters i) (sym count_c i)) ∙ clusters_back.all f.clusters _;
       metadata_are = (λ i. first_rows link_row (left.metadata i) (sym countM i)) ∙ links_back.all f.metadata _;
     }
@@ -141,7 +140,7 @@ flatten_map f (xs ∷ xss) = ap (λ (l : List _). map f xs ++ l) (flatten_map f 
 
 -- what a reader's call leaves where there is room
 pages_left : (x : Beside (List (List PageRow))) (pss : List (List PageRow)) (p₀ p : List ℕ) (r : PageListAnswer) → x ≡ read pss → leb (pages_of pss) (length p₀ / page_width) ≡ true
-    → PageListRead x p₀ p r → (r ≡ AcceptedPages (pages_of pss)) × (p ≡ over (flat (flat page_words) pss) p₀)
+    → PageListRead x p₀ p r → (r ≡ Ok (pages_of pss)) × (p ≡ over (flat (flat page_words) pss) p₀)
 unfolding answer written
 pages_left x pss p₀ p r is room call =
     (call.answers ∙ ap (answer (length p₀)) is ∙ rw room refl, call.pages_are ∙ ap (written (length p₀) p₀) is ∙ rw room refl)
@@ -176,6 +175,6 @@ page_list_read_back header entries file pages out₀ out n call p₀ p r reading
     let whole = both_read_is 3 (λ g. page_list_of g entries file (take n out)) (header_of header) pss h b.place q b.reads reads in
     let (r_is, p-is) = pages_left _ pss p₀ p r whole (fitting page_width (pages_of pss) p₀ (rows_in page_width pages) (sym (flat_long pss) ∙ count) room) reading in
     record {
-      accepts = r_is ∙ ap AcceptedPages (sym (flat_long pss) ∙ count);
+      accepts = r_is ∙ ap Ok (sym (flat_long pss) ∙ count);
       pages_are = (λ i. first_rows page_row (p-is i) (sym count i)) ∙ page_lists_back.all pss _ ∙ all;
     }

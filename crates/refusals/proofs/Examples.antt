@@ -24,7 +24,7 @@ use Rattle.header.specs.Header.{Header, columns_after, aliases_after, lists, pay
 use Rattle.header.specs.Tables.{header_of, chained}
 use Rattle.listing.specs.Answers.{answer, left, reported, outcome_of, Answered}
 use Rattle.listing.specs.Samples.{vector_header}
-use Rattle.listing.specs.declared.ListAnswer.{ListAnswer}
+use Rattle.listing.specs.Answer.{ListAnswer}
 use Rattle.listing.proofs.Samples.{vector_listed}
 use Rattle.links.specs.Links.{link}
 use Rattle.clusters.specs.Clusters.{list_checksum, cluster, entries_of}

@@ -16,23 +16,19 @@ use Rattle.envelope.specs.Envelope.{checksum_of}
 use Rattle.header.specs.Header.{Header}
 use Rattle.header.specs.Beside.{Beside, read, refusal, in_envelope, beside}
 use Rattle.header.specs.Tables.{header_of, answer, outcome_of, room_for}
-use Rattle.header.specs.declared.HeaderAnswer.{HeaderAnswer}
-use Rattle.header.specs.declared.HeaderAnswer.TheVariants.{Accepted, Refused}
+use Rattle.header.specs.Answer.{HeaderAnswer}
 use Rattle.moves.specs.Moves.{answer as movesAnswer, outcome_of as movesOutcome}
-use Rattle.moves.specs.declared.MovesAnswer.{MovesAnswer}
+use Rattle.moves.specs.Answer.{MovesAnswer}
 use Rattle.listing.specs.Lines.{listing}
 use Rattle.listing.specs.Answers.{fitted, answer as listAnswer, outcome_of as listOutcome}
-use Rattle.listing.specs.declared.ListAnswer.{ListAnswer}
-use Rattle.listing.specs.declared.ListAnswer.TheVariants.{Listed as ListedBytes, Refused as RefusedBytes}
+use Rattle.listing.specs.Answer.{ListAnswer}
 use Rattle.footer.specs.Footer.{Footer, footer_of}
 use Rattle.footer.specs.Tables.{footer_beside, beside_by_build, answer as footerAnswer, outcome_of as footerOutcome, room_for as footerRoom}
-use Rattle.footer.specs.declared.FooterAnswer.{FooterAnswer}
-use Rattle.footer.specs.declared.FooterAnswer.TheVariants.{Accepted as AcceptedFooter, Refused as RefusedFooter}
+use Rattle.footer.specs.Answer.{FooterAnswer}
 use Rattle.column_pages.specs.ColumnPages.{pages_of}
 use Rattle.page_list.specs.PageList.{page_list_of}
 use Rattle.page_list.specs.Tables.{page_list_beside, answer as pageListAnswer, outcome_of as pageListOutcome, room_for as pageListRoom, Answered as AnsweredPages}
-use Rattle.page_list.specs.declared.PageListAnswer.{PageListAnswer}
-use Rattle.page_list.specs.declared.PageListAnswer.TheVariants.{Accepted as AcceptedPages, Refused as RefusedPages}
+use Rattle.page_list.specs.Answer.{PageListAnswer}
 use Rattle.rows.specs.declared.PageRow.{PageRow}
 use Rattle.pairing.specs.Paired.{paired_of, paired_beside}
 use Rattle.refusals.specs.Refusals.{among, in_header, in_footer, in_page_list, in_pairing, HeaderNumbers, FooterNumbers, PageListNumbers, PairingNumbers, with_room, of_first, of_header, of_moves, of_beside, possible, Told, HeaderRefusals, MovesRefusals, ListRefusals, FooterRefusals, PageListRefusals, PairingRefusals}
@@ -41,6 +37,7 @@ use Rattle.refusals.proofs.HeaderNumbers.{header_numbers}
 use Rattle.refusals.proofs.FooterNumbers.{footer_numbers}
 use Rattle.refusals.proofs.PageListNumbers.{page_list_numbers}
 use Rattle.refusals.proofs.PairingNumbers.{pairing_numbers}
+use Rattle.std.specs.Prelude.{Ok, Err}
 
 -- the numbers that are listed have one byte
 
@@ -100,7 +97,7 @@ header_possible : (f c a : ℕ) (e : List ℕ) → possible of_header (outcome_o
 unfolding answer HeaderNumbers among
 header_possible f c a e = by (header_of e) (header_numbers e)
   where
-    room : (b : Bool) (h : Header) → possible of_header (outcome_of (pick b (Accepted (record { texts = h.texts; fields = length h.lists.fields; columns = length h.lists.columns; aliases = length h.lists.aliases })) (Refused 20))) ≡ true
+    room : (b : Bool) (h : Header) → possible of_header (outcome_of (pick b (Ok (record { texts = h.texts; fields = length h.lists.fields; columns = length h.lists.columns; aliases = length h.lists.aliases })) (Err 20))) ≡ true
     room true h = refl
     room false h = refl
 
@@ -132,7 +129,7 @@ list_possible : (room : ℕ) (e : List ℕ) → possible of_header (listOutcome 
 unfolding listAnswer fitted HeaderNumbers among
 list_possible room e = by (header_of e) (header_numbers e)
   where
-    fits : (b : Bool) (n : ℕ) → possible of_header (listOutcome (pick b (ListedBytes n) (RefusedBytes 20))) ≡ true
+    fits : (b : Bool) (n : ℕ) → possible of_header (listOutcome (pick b (Ok n) (Err 20))) ≡ true
     fits true n = refl
     fits false n = refl
 
@@ -168,7 +165,7 @@ footer_possible c m e g file =
     beside_any (λ y. possible (of_beside 2 in_footer) (footerOutcome (footerAnswer c m y)) ≡ true) 2 in_footer (λ _. footer_of (checksum_of e) file g) (λ _. footer_numbers (checksum_of e) file g)
     (λ f. room (footerRoom c m f) f) (λ f h. h) (λ f h. among_more 20 in_footer f.number h) e
   where
-    room : (b : Bool) (f : Footer) → possible (of_beside 2 in_footer) (footerOutcome (pick b (AcceptedFooter (length f.clusters) (length f.metadata)) (RefusedFooter 2 20))) ≡ true
+    room : (b : Bool) (f : Footer) → possible (of_beside 2 in_footer) (footerOutcome (pick b (Ok (record { clusters = length f.clusters; metadata = length f.metadata })) (Err (record { envelope = 2; number = 20 })))) ≡ true
     room true f = refl
     room false f = refl
 
@@ -187,7 +184,7 @@ module _ (ns : List ℕ) (few : all_below 256 ns ≡ true) (r : Header → Step 
       beside_any (λ y. possible (of_beside 3 ns) (pageListOutcome (pageListAnswer n y)) ≡ true) 3 ns r numbers
       (λ pss. room (pageListRoom n pss) pss) (λ f h. h) (λ f h. among_more 20 ns f.number h) e
     where
-      room : (b : Bool) (pss : List (List PageRow)) → possible (of_beside 3 ns) (pageListOutcome (pick b (AcceptedPages (pages_of pss)) (RefusedPages 3 20))) ≡ true
+      room : (b : Bool) (pss : List (List PageRow)) → possible (of_beside 3 ns) (pageListOutcome (pick b (Ok (pages_of pss)) (Err (record { envelope = 3; number = 20 })))) ≡ true
       room true pss = refl
       room false pss = refl
 

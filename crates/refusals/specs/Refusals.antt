@@ -6,17 +6,17 @@ use Rattle.wire.specs.declared.Fault.{Fault}
 use Rattle.outcome.specs.Outcome.{Outcome, is_accepted, code_of}
 use Rattle.header.specs.Header.{Header}
 use Rattle.header.specs.Tables.{header_of, outcome_of, Answered}
-use Rattle.header.specs.declared.HeaderAnswer.{HeaderAnswer}
+use Rattle.header.specs.Answer.{HeaderAnswer}
 use Rattle.moves.specs.Moves.{outcome_of as movesOutcome, Answered as AnsweredMoves}
-use Rattle.moves.specs.declared.MovesAnswer.{MovesAnswer}
+use Rattle.moves.specs.Answer.{MovesAnswer}
 use Rattle.listing.specs.Answers.{outcome_of as listOutcome, Answered as AnsweredList}
-use Rattle.listing.specs.declared.ListAnswer.{ListAnswer}
+use Rattle.listing.specs.Answer.{ListAnswer}
 use Rattle.footer.specs.Footer.{footer_of}
 use Rattle.footer.specs.Tables.{footer_beside, outcome_of as footerOutcome, Answered as AnsweredFooter}
-use Rattle.footer.specs.declared.FooterAnswer.{FooterAnswer}
+use Rattle.footer.specs.Answer.{FooterAnswer}
 use Rattle.page_list.specs.PageList.{page_list_of}
 use Rattle.page_list.specs.Tables.{page_list_beside, outcome_of as pageListOutcome, Answered as AnsweredPages}
-use Rattle.page_list.specs.declared.PageListAnswer.{PageListAnswer}
+use Rattle.page_list.specs.Answer.{PageListAnswer}
 use Rattle.pairing.specs.Paired.{paired_of, paired_beside}
 
 -- n is one of these numbers

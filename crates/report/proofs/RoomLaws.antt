@@ -10,8 +10,7 @@ use Rattle.wire.specs.declared.Fault.{Fault}
 use Rattle.wire.specs.Reading.{Step, found, refused}
 use Rattle.header.specs.Header.{Header}
 use Rattle.header.specs.Tables.{header_of, answer}
-use Rattle.header.specs.declared.HeaderAnswer.{HeaderAnswer}
-use Rattle.header.specs.declared.HeaderAnswer.TheVariants.{Refused}
+use Rattle.header.specs.Answer.{HeaderAnswer}
 use Rattle.header.proofs.HeaderLaws.{full_room}
 use Rattle.rows.specs.Words.{full_fields, full_columns, full_aliases}
 use Rattle.refusals.specs.Refusals.{among, in_header, HeaderNumbers}
@@ -20,6 +19,7 @@ use Rattle.report.specs.declared.Line.{Line}
 use Rattle.report.specs.Line.{header_line, line_of}
 use Rattle.report.specs.Program.{most_bytes, verdict, printed}
 use Rattle.report.specs.Printed.{full_answer, FullTablesSuffice, NeverTwenty}
+use Rattle.std.specs.Prelude.{Err}
 
 pub full_tables_suffice : FullTablesSuffice
 unfolding answer verdict
@@ -34,7 +34,7 @@ pub never_twenty : NeverTwenty
 unfolding verdict HeaderNumbers among
 never_twenty e w = by (header_of e) (header_numbers e) (sym (full_tables_suffice e) ∙ w)
   where
-    by : (x : Step Header) → ((f : Fault) → x ≡ refused f → among in_header f.number ≡ true) → verdict x ≡ Refused 20 → ⊥
+    by : (x : Step Header) → ((f : Fault) → x ≡ refused f → among in_header f.number ≡ true) → verdict x ≡ Err 20 → ⊥
     by (found h p) numbers u = let z : ◌≡◌ {A = ℕ} 0 1 = cc in omega arith
     by (refused f) numbers u =
         let same : f.number ≡ 20 = cc in

@@ -1,10 +1,9 @@
 -- The line that is printed for a header.
-use Rattle.std.specs.Prelude.{ℕ, ◌+◌, List, ◌++◌, length, take, drop, replicate, leb}
+use Rattle.std.specs.Prelude.{ℕ, ◌+◌, List, ◌++◌, length, take, drop, replicate, leb, Ok, Err}
 use Rattle.numbers.specs.Choice.{pick}
 use Rattle.numbers.specs.Rows.{over}
 use Rattle.decimals.specs.Decimal.{text, decimal}
-use Rattle.header.specs.declared.HeaderAnswer.{HeaderAnswer}
-use Rattle.header.specs.declared.HeaderAnswer.TheVariants.{Accepted, Refused}
+use Rattle.header.specs.Answer.{HeaderAnswer}
 use Rattle.report.specs.declared.Line.{Line}
 
 unfoldable pub accepted_line : ℕ → ℕ → ℕ → List ℕ
@@ -19,8 +18,8 @@ longer_line = text "1 longer than 65536\n"
 
 -- the whole line for the answer of the header's reader
 abbrev pub header_line : HeaderAnswer → List ℕ
-header_line (Accepted tables) = accepted_line tables.fields tables.columns tables.aliases
-header_line (Refused number) = refused_line number
+header_line (Ok tables) = accepted_line tables.fields tables.columns tables.aliases
+header_line (Err number) = refused_line number
 
 -- how many bytes a line has room for: 97 are the most, with three numbers of 20 digits
 abbrev pub room : ℕ

@@ -1,12 +1,11 @@
 -- Theorems on what the program prints.
-use Rattle.std.specs.Prelude.{ℕ, ◌<◌, List, [], ◌∷◌, ◌≡◌, length}
+use Rattle.std.specs.Prelude.{ℕ, ◌<◌, List, [], ◌∷◌, ◌≡◌, length, Err}
 use Rattle.decimals.specs.Decimal.{text}
 use Rattle.rows.specs.Words.{full_fields, full_columns, full_aliases}
 use Rattle.wire.specs.Reading.{Step}
 use Rattle.header.specs.Header.{Header}
 use Rattle.header.specs.Tables.{header_of, answer}
-use Rattle.header.specs.declared.HeaderAnswer.{HeaderAnswer}
-use Rattle.header.specs.declared.HeaderAnswer.TheVariants.{Refused}
+use Rattle.header.specs.Answer.{HeaderAnswer}
 use Rattle.report.specs.Program.{most_bytes, verdict, printed}
 
 -- the answer where the lent tables have room for all the rows that a header may have
@@ -19,7 +18,7 @@ FullTablesSuffice = (e : List ℕ) → full_answer (header_of e) ≡ verdict (he
 
 -- so the number for too little room is never answered
 abbrev pub NeverTwenty : Type 0
-NeverTwenty = (e : List ℕ) → full_answer (header_of e) ≡ Refused 20 → ⊥
+NeverTwenty = (e : List ℕ) → full_answer (header_of e) ≡ Err 20 → ⊥
 
 -- the whole output for the smallest header, for no input, and for more input than is read
 

@@ -38,12 +38,12 @@ pub fn header_line(answer: HeaderAnswer) -> Line
     ensures { result ≡ line_of (header_line answer) }
 {
     match answer {
-        HeaderAnswer::Accepted(tables) => accepted_line(
+        Ok(tables) => accepted_line(
             tables.fields as u64,
             tables.columns as u64,
             tables.aliases as u64,
         ),
-        HeaderAnswer::Refused(number) => refused_line(number as u64),
+        Err(number) => refused_line(number as u64),
     }
 }
 

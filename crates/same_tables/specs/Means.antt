@@ -3,10 +3,8 @@
 use Rattle.std.specs.Prelude.{ℕ, ◌<◌, List, Bool, true, ◌≡◌}
 use Rattle.rows.specs.Tables.{field_row, dark_mark}
 use Rattle.header.specs.declared.HeaderTables.{HeaderTables}
-use Rattle.header.specs.declared.HeaderAnswer.TheVariants.{Accepted as HeaderAccepted}
-use Rattle.footer.specs.declared.FooterAnswer.TheVariants.{Accepted as FooterAccepted}
-use Rattle.page_list.specs.declared.PageListAnswer.TheVariants.{Accepted as PageListAccepted}
 use Rattle.same_tables.specs.Same.{characters_of, numbers_of, same_headers, same_footers, same_page_lists}
+use Rattle.std.specs.Prelude.{Ok}
 
 pub record SameField (e f e' f' : List ℕ) (i : ℕ) : Type 0 where
   pub numbers : numbers_of (field_row f i).head ≡ numbers_of (field_row f' i).head
@@ -43,11 +41,11 @@ pub record Exactly (test : Bool) (So : Type 0) : Type 0 where
 
 abbrev pub HeadersTold : Type 0
 HeadersTold = (e f c a : List ℕ) (t : HeaderTables) (e' f' c' a' : List ℕ) (t' : HeaderTables)
-    → Exactly (same_headers e f c a (HeaderAccepted t) e' f' c' a' (HeaderAccepted t')) (SameHeaders e f c a t e' f' c' a' t')
+    → Exactly (same_headers e f c a (Ok t) e' f' c' a' (Ok t')) (SameHeaders e f c a t e' f' c' a' t')
 
 abbrev pub FootersTold : Type 0
 FootersTold = (c m : List ℕ) (n k : ℕ) (c' m' : List ℕ) (n' k' : ℕ)
-    → Exactly (same_footers c m (FooterAccepted n k) c' m' (FooterAccepted n' k')) (SameFooters c m n k c' m' n' k')
+    → Exactly (same_footers c m (Ok (record { clusters = n; metadata = k })) c' m' (Ok (record { clusters = n'; metadata = k' }))) (SameFooters c m n k c' m' n' k')
 
 abbrev pub PageListsTold : Type 0
-PageListsTold = (p : List ℕ) (n : ℕ) (p' : List ℕ) (n' : ℕ) → Exactly (same_page_lists p (PageListAccepted n) p' (PageListAccepted n')) (SamePageLists p n p' n')
+PageListsTold = (p : List ℕ) (n : ℕ) (p' : List ℕ) (n' : ℕ) → Exactly (same_page_lists p (Ok n) p' (Ok n')) (SamePageLists p n p' n')

@@ -7,12 +7,10 @@ use Rattle.rows.specs.declared.FieldHead.{FieldHead}
 use Rattle.rows.specs.declared.FieldTexts.{FieldTexts}
 use Rattle.reader.specs.Text.{text_of}
 use Rattle.header.specs.declared.HeaderTables.{HeaderTables}
-use Rattle.header.specs.declared.HeaderAnswer.{HeaderAnswer}
-use Rattle.header.specs.declared.HeaderAnswer.TheVariants.{Accepted as HeaderAccepted, Refused as HeaderRefused}
-use Rattle.footer.specs.declared.FooterAnswer.{FooterAnswer}
-use Rattle.footer.specs.declared.FooterAnswer.TheVariants.{Accepted as FooterAccepted, Refused as FooterRefused}
-use Rattle.page_list.specs.declared.PageListAnswer.{PageListAnswer}
-use Rattle.page_list.specs.declared.PageListAnswer.TheVariants.{Accepted as PageListAccepted, Refused as PageListRefused}
+use Rattle.header.specs.Answer.{HeaderAnswer}
+use Rattle.footer.specs.Answer.{FooterAnswer}
+use Rattle.page_list.specs.Answer.{PageListAnswer}
+use Rattle.std.specs.Prelude.{Ok, Err}
 
 unfoldable pub same_numbers : List ℕ → List ℕ → Bool
 same_numbers [] [] = true
@@ -62,9 +60,9 @@ same_read e f t e' f' t' =
     (both (same_texts e t.texts.name e' t'.texts.name) (both (same_texts e t.texts.description e' t'.texts.description) (same_fields e f e' f' t.fields)))))
 
 abbrev pub same_answers : List ℕ → List ℕ → HeaderAnswer → List ℕ → List ℕ → HeaderAnswer → Bool
-same_answers e f (HeaderAccepted t) e' f' (HeaderAccepted t') = same_read e f t e' f' t'
-same_answers e f (HeaderAccepted t) e' f' (HeaderRefused n) = false
-same_answers e f (HeaderRefused n) e' f' x = false
+same_answers e f (Ok t) e' f' (Ok t') = same_read e f t e' f' t'
+same_answers e f (Ok t) e' f' (Err n) = false
+same_answers e f (Err n) e' f' x = false
 
 abbrev pub same_headers : (e f c a : List ℕ) → HeaderAnswer → (e' f' c' a' : List ℕ) → HeaderAnswer → Bool
 same_headers e f c a x e' f' c' a' x' = both (same_numbers c c') (both (same_numbers a a') (same_answers e f x e' f' x'))
@@ -72,9 +70,9 @@ same_headers e f c a x e' f' c' a' x' = both (same_numbers c c') (both (same_num
 -- Footers: a call answered x and left the tables c and m of clusters and metadata links.
 
 abbrev pub same_footer_counts : FooterAnswer → FooterAnswer → Bool
-same_footer_counts (FooterAccepted c m) (FooterAccepted c' m') = both (eqb c c') (eqb m m')
-same_footer_counts (FooterAccepted c m) (FooterRefused k n) = false
-same_footer_counts (FooterRefused k n) x = false
+same_footer_counts (Ok n) (Ok n') = both (eqb n.clusters n'.clusters) (eqb n.metadata n'.metadata)
+same_footer_counts (Ok n) (Err why) = false
+same_footer_counts (Err why) x = false
 
 abbrev pub same_footers : (c m : List ℕ) → FooterAnswer → (c' m' : List ℕ) → FooterAnswer → Bool
 same_footers c m x c' m' x' = both (same_numbers c c') (both (same_numbers m m') (same_footer_counts x x'))
@@ -82,9 +80,9 @@ same_footers c m x c' m' x' = both (same_numbers c c') (both (same_numbers m m')
 -- Page lists: a call answered x and left the table p of pages.
 
 abbrev pub same_page_counts : PageListAnswer → PageListAnswer → Bool
-same_page_counts (PageListAccepted n) (PageListAccepted n') = eqb n n'
-same_page_counts (PageListAccepted n) (PageListRefused k m) = false
-same_page_counts (PageListRefused k m) x = false
+same_page_counts (Ok n) (Ok n') = eqb n n'
+same_page_counts (Ok n) (Err why) = false
+same_page_counts (Err why) x = false
 
 abbrev pub same_page_lists : List ℕ → PageListAnswer → List ℕ → PageListAnswer → Bool
 same_page_lists p x p' x' = both (same_numbers p p') (same_page_counts x x')

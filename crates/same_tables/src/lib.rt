@@ -49,11 +49,11 @@ fn same_answers(
     ensures { result ≡ same_answers old.now f.now x new.now g.now y }
 {
     match x {
-        HeaderAnswer::Accepted(t) => match y {
-            HeaderAnswer::Accepted(u) => same_read(old, f, t, new, g, u),
-            HeaderAnswer::Refused(_) => false,
+        Ok(t) => match y {
+            Ok(u) => same_read(old, f, t, new, g, u),
+            Err(_) => false,
         },
-        HeaderAnswer::Refused(_) => false,
+        Err(_) => false,
     }
 }
 
@@ -102,22 +102,16 @@ fn same_footer_counts(x: FooterAnswer, y: FooterAnswer) -> bool
     ensures { result ≡ same_footer_counts x y }
 {
     match x {
-        FooterAnswer::Accepted {
-            clusters: c,
-            metadata: m,
-        } => match y {
-            FooterAnswer::Accepted {
-                clusters: d,
-                metadata: n,
-            } => {
-                if c != d {
+        Ok(m) => match y {
+            Ok(n) => {
+                if m.clusters != n.clusters {
                     return false;
                 }
-                m == n
+                m.metadata == n.metadata
             }
-            FooterAnswer::Refused(_, _) => false,
+            Err(_) => false,
         },
-        FooterAnswer::Refused(_, _) => false,
+        Err(_) => false,
     }
 }
 
@@ -135,10 +129,10 @@ fn same_page_counts(x: PageListAnswer, y: PageListAnswer) -> bool
     ensures { result ≡ same_page_counts x y }
 {
     match x {
-        PageListAnswer::Accepted { pages: m } => match y {
-            PageListAnswer::Accepted { pages: n } => m == n,
-            PageListAnswer::Refused(_, _) => false,
+        Ok(m) => match y {
+            Ok(n) => m == n,
+            Err(_) => false,
         },
-        PageListAnswer::Refused(_, _) => false,
+        Err(_) => false,
     }
 }

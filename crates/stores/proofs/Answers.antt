@@ -15,9 +15,9 @@ use Rattle.header.specs.Header.{Header}
 use Rattle.header.specs.Beside.{read}
 use Rattle.writing.specs.Piece.{Piece, first, tested_last, enveloped}
 use Rattle.writing.specs.Answers.{Answered, verdict, answer, left, beside_header, outcome_of}
-use Rattle.writing.specs.declared.WriteAnswer.{WriteAnswer}
-use Rattle.writing.specs.declared.WriteAnswer.TheVariants.{Written, Refused}
+use Rattle.writing.specs.Answer.{WriteAnswer}
 use Rattle.stores.specs.Stored.{InFront}
+use Rattle.std.specs.Prelude.{Ok, Err}
 
 -- a length that was counted up to the ceiling: n itself where it is not above that, else anything above
 pub record Counted (n long : ℕ) : Type 0 where
@@ -36,36 +36,40 @@ length_first version minimum y n = by (leb (8 + y.long) ceiling)
     by true = refl
     by false = refl
 
+-- a refusal by its envelope and number
+abbrev refused_by : ℕ → ℕ → WriteAnswer
+refused_by k n = Err (record { envelope = k; number = n })
+
 module _ (k : ℕ) (x : Piece) (out : List ℕ) where
   answered : (out' : List ℕ) (r : WriteAnswer) → r ≡ answer k (length out) (read x) → out' ≡ left out (read x) → Answered k (read x) out out' r
   answered out' r is bytes = record { answers = is; reports = ap outcome_of is; bytes_are = bytes }
 
   -- something is refused
-  pub refused_answer : (n : ℕ) → n ≡ x.number → (n ≡ 0 → ⊥) → Answered k (read x) out out (Refused k n)
+  pub refused_answer : (n : ℕ) → n ≡ x.number → (n ≡ 0 → ⊥) → Answered k (read x) out out (Err (record { envelope = k; number = n }))
   unfolding answer verdict left
   refused_answer n e bad =
       let refuses : eqb x.number 0 ≡ false = ne_eqb x.number 0 (λ z. bad (e ∙ z)) in
-      answered out (Refused k n) (rw refuses (ap (Refused k) e)) (rw refuses refl)
+      answered out (refused_by k n) (rw refuses (ap (refused_by k) e)) (rw refuses refl)
 
   -- nothing is refused, and there is no room
-  pub roomless : x.number ≡ 0 → length out < x.long → Answered k (read x) out out (Refused k 20)
+  pub roomless : x.number ≡ 0 → length out < x.long → Answered k (read x) out out (Err (record { envelope = k; number = 20 }))
   unfolding answer verdict left
   roomless good few =
       let fine : eqb x.number 0 ≡ true = eq-eqb x.number 0 good in
       let small : leb x.long (length out) ≡ false = lt-leb x.long (length out) few in
-      answered out (Refused k 20) (rw (fine, small) refl) (rw (fine, small) refl)
+      answered out (Err (record { envelope = k; number = 20 })) (rw (fine, small) refl) (rw (fine, small) refl)
 
   -- nothing is refused, and there is room
-  pub wrote : (out' : List ℕ) → x.number ≡ 0 → x.long ≤ length out → out' ≡ over x.bytes out → Answered k (read x) out out' (Written x.long)
+  pub wrote : (out' : List ℕ) → x.number ≡ 0 → x.long ≤ length out → out' ≡ over x.bytes out → Answered k (read x) out out' (Ok x.long)
   unfolding answer verdict left
   wrote out' good enough is =
       let fine : eqb x.number 0 ≡ true = eq-eqb x.number 0 good in
       let room : leb x.long (length out) ≡ true = le-leb x.long (length out) enough in
-      answered out' (Written x.long) (rw (fine, room) refl) (rw (fine, room) is)
+      answered out' (Ok x.long) (rw (fine, room) refl) (rw (fine, room) is)
 
   -- a piece whose length is tested first: n is the number of all that comes after that
   module _ (n : ℕ) (first-long : x.number ≡ unless (leb x.long ceiling) 1 n) (long : ℕ) (counted : Counted x.long long) where
-    pub long_answer : ceiling < long → Answered k (read x) out out (Refused k 1)
+    pub long_answer : ceiling < long → Answered k (read x) out out (Err (record { envelope = k; number = 1 }))
     long_answer big =
         let long_is : leb x.long ceiling ≡ false = lt-leb x.long ceiling (counted.above big) in
         refused_answer 1 (sym (first-long ∙ ap (λ b. unless b 1 n) long_is)) (λ z. absurd (omega (arith, z)))
@@ -80,13 +84,13 @@ module _ (k : ℕ) (x : Piece) (out : List ℕ) where
           let short_is : leb x.long ceiling ≡ true = le-leb x.long ceiling (omega arith) in
           sym (first-long ∙ ap (λ b. unless b 1 n) short_is)
 
-      pub number_answer : (n ≡ 0 → ⊥) → Answered k (read x) out out (Refused k n)
+      pub number_answer : (n ≡ 0 → ⊥) → Answered k (read x) out out (Err (record { envelope = k; number = n }))
       number_answer bad = refused_answer n number_is_lem bad
 
-      pub room_answer : n ≡ 0 → length out < long → Answered k (read x) out out (Refused k 20)
+      pub room_answer : n ≡ 0 → length out < long → Answered k (read x) out out (Err (record { envelope = k; number = 20 }))
       room_answer good few = let e = exact in roomless (sym number_is_lem ∙ good) (omega arith)
 
-      pub written_answer : (out' : List ℕ) → Exact x → n ≡ 0 → long ≤ length out → InFront x out out' → Answered k (read x) out out' (Written long)
+      pub written_answer : (out' : List ℕ) → Exact x → n ≡ 0 → long ≤ length out → InFront x out out' → Answered k (read x) out out' (Ok long)
       written_answer out' same good enough stands =
           let e = exact in
           let fine = sym number_is_lem ∙ good in
@@ -95,7 +99,7 @@ module _ (k : ℕ) (x : Piece) (out : List ℕ) where
 
 -- what is written beside a header: the header's refusal first
 module _ (k : ℕ) (x : Header → Piece) (out : List ℕ) {s : Step Header} where
-  pub header_refused_lem : {f : Fault} → s ≡ refused f → Answered k (beside_header x s) out out (Refused 1 f.number)
+  pub header_refused_lem : {f : Fault} → s ≡ refused f → Answered k (beside_header x s) out out (Err (record { envelope = 1; number = f.number }))
   unfolding answer left
   header_refused_lem e = rw e (record { answers = refl; reports = refl; bytes_are = refl })
 

@@ -18,20 +18,17 @@ use Rattle.envelope.specs.Envelope.{ceiling, checksum_of}
 use Rattle.header.specs.Header.{Header, flags_of}
 use Rattle.header.specs.Beside.{Beside, read, refusal}
 use Rattle.header.specs.Tables.{header_of, outcome_of, room_for, Answered, parents_of}
-use Rattle.header.specs.declared.HeaderAnswer.{HeaderAnswer}
-use Rattle.header.specs.declared.HeaderAnswer.TheVariants.{Accepted, Refused}
+use Rattle.header.specs.Answer.{HeaderAnswer}
 use Rattle.footer.specs.Footer.{Footer, footer_of}
 use Rattle.footer.specs.Tables.{beside_by_build, footer_beside, answer as footerAnswer, outcome_of as footerOutcome, room_for as footerRoom, Answered as AnsweredFooter}
-use Rattle.footer.specs.declared.FooterAnswer.{FooterAnswer}
-use Rattle.footer.specs.declared.FooterAnswer.TheVariants.{Accepted as AcceptedFooter, Refused as RefusedFooter}
+use Rattle.footer.specs.Answer.{FooterAnswer}
 use Rattle.column_pages.specs.ColumnPages.{bits_of, pages_of}
 use Rattle.pages.specs.Pages.{elements_of}
 use Rattle.totals.specs.Totals.{totals}
 use Rattle.std.specs.Prelude.{None}
 use Rattle.page_list.specs.PageList.{totals_of, page_list_of}
 use Rattle.page_list.specs.Tables.{page_list_beside, answer as pagesAnswer, outcome_of as pageListOutcome, room_for as pagesRoom, Answered as AnsweredPages}
-use Rattle.page_list.specs.declared.PageListAnswer.{PageListAnswer}
-use Rattle.page_list.specs.declared.PageListAnswer.TheVariants.{Accepted as AcceptedPages, Refused as RefusedPages}
+use Rattle.page_list.specs.Answer.{PageListAnswer}
 use Rattle.tree.specs.Bytes.{Bytes}
 use Rattle.tree.specs.HeaderTree.{FieldContent, HeaderContent, field_content, header_content, tables_of}
 use Rattle.tree.specs.FooterTree.{cluster_row, link_row, footer_tables, render_footer}
@@ -43,6 +40,7 @@ use Rattle.tree.proofs.HeaderCalls.{accepted_call, roomy_call}
 use Rattle.header.proofs.Besides.{Both, both_read, both_read_is, beside_names}
 use Rattle.tree.proofs.PageListLaws.{rows_pages}
 use Rattle.tree.proofs.Exactly.{footer_exactly, page_list_exactly}
+use Rattle.std.specs.Prelude.{Ok, Err}
 
 -- headers
 
@@ -74,7 +72,7 @@ written_header e h q bytes reads =
 
 header_fits : (e f₀ f c₀ c a₀ a : List ℕ) (r : HeaderAnswer) → Bytes e → Answered (header_of e) f₀ f c₀ c a₀ a r → is_accepted (outcome_of r) ≡ true
     → HeaderFits e (length f₀) (length c₀) (length a₀)
-header_fits e f₀ f c₀ c a₀ a (Accepted x) bytes call h =
+header_fits e f₀ f c₀ c a₀ a (Ok x) bytes call h =
     let k = accepted_call e f₀ f c₀ c a₀ a x call in
     let (w, means) = written_header e k.header k.place bytes k.reads in
     let (fields, columns, aliases) = counts_same e k.header (tables_of w.tree) means in
@@ -87,7 +85,7 @@ header_fits e f₀ f c₀ c a₀ a (Accepted x) bytes call h =
       columns_fit = omega (arith, leb-true (length l.columns) (length c₀ / column_width) roomy', columns);
       aliases_fit = omega (arith, leb-true (length l.aliases) (length a₀ / alias_width) roomy'', aliases);
     }
-header_fits e f₀ f c₀ c a₀ a (Refused n) bytes call h = clash h refl
+header_fits e f₀ f c₀ c a₀ a (Err n) bytes call h = clash h refl
 
 pub header_accepted : HeaderAccepted
 unfolding HeaderAccepted
@@ -117,7 +115,7 @@ unfolding beside_by_build footerAnswer
 footer_read_lem e g file c m h = by (footer_beside e g file) refl h
   where
     roomy : (f : Footer) → footer_beside e g file ≡ read f → (b : Bool) → footerRoom c m f ≡ b
-        → is_accepted (footerOutcome (pick b (AcceptedFooter (length f.clusters) (length f.metadata)) (RefusedFooter 2 20))) ≡ true → FooterRead e g file c m
+        → is_accepted (footerOutcome (pick b (Ok (record { clusters = length f.clusters; metadata = length f.metadata })) (Err (record { envelope = 2; number = 20 })))) ≡ true → FooterRead e g file c m
     roomy f is true room h =
         record { footer = f; is = is; room = room; both = both_read 2 (λ _. footer_of (checksum_of e) file g) (header_of e) f is }
     roomy f is false room h = clash h refl
@@ -162,7 +160,7 @@ footer_accepted e g file c₀ c m₀ m r bytes bytes' call =
           let many = length-map said.clusters cluster_row in
           let many' = length-map said.metadata link_row in
           let room : footerRoom (length c₀) (length m₀) (footer_tables said) ≡ true = rw (many, many', le-leb (length said.clusters) (length c₀ / cluster_width) f.clusters_fit, le-leb (length said.metadata) (length m₀ / link_width) f.metadata_fit) refl in
-          let answers : r ≡ AcceptedFooter (length (map cluster_row said.clusters)) (length (map link_row said.metadata)) = call.answers ∙ ap (footerAnswer (length c₀) (length m₀)) is ∙ rw room refl in
+          let answers : r ≡ Ok (record { clusters = length (map cluster_row said.clusters); metadata = length (map link_row said.metadata) }) = call.answers ∙ ap (footerAnswer (length c₀) (length m₀)) is ∙ rw room refl in
           ap footerOutcome answers ∙ (λ i. accepted_with (many i ∷ many' i ∷ []));
     }
 
@@ -180,7 +178,7 @@ unfolding page_list_beside pagesAnswer
 pages_read_lem e l entries file n h = by (page_list_beside e l entries file) refl h
   where
     roomy : (pss : List (List PageRow)) → page_list_beside e l entries file ≡ read pss → (b : Bool) → pagesRoom n pss ≡ b
-        → is_accepted (pageListOutcome (pick b (AcceptedPages (pages_of pss)) (RefusedPages 3 20))) ≡ true → PagesRead e l entries file n
+        → is_accepted (pageListOutcome (pick b (Ok (pages_of pss)) (Err (record { envelope = 3; number = 20 })))) ≡ true → PagesRead e l entries file n
     roomy pss is true room h =
         record { pages = pss; is = is; room = room; both = both_read 3 (λ h. page_list_of h entries file l) (header_of e) pss is }
     roomy pss is false room h = clash h refl
@@ -255,6 +253,6 @@ page_list_accepted e l entries file p₀ p r bytes bytes' call =
           let is = both_read_is 3 (λ x. page_list_of x entries file l) (header_of e) (page_rows 0 said) h t.place q t.reads reads in
           let many = rows_pages 0 said in
           let room : pagesRoom (length p₀) (page_rows 0 said) ≡ true = rw (many, le-leb (pages_in said) (length p₀ / page_width) g.pages_fit) refl in
-          let answers : r ≡ AcceptedPages (pages_of (page_rows 0 said)) = call.answers ∙ ap (pagesAnswer (length p₀)) is ∙ rw room refl in
+          let answers : r ≡ Ok (pages_of (page_rows 0 said)) = call.answers ∙ ap (pagesAnswer (length p₀)) is ∙ rw room refl in
           ap pageListOutcome answers ∙ (λ i. accepted_with (many i ∷ []));
     }

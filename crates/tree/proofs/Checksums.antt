@@ -13,8 +13,7 @@ use Rattle.rows.specs.Tables.{cluster_row}
 use Rattle.rows.proofs.RowLaws.{clusters_back}
 use Rattle.footer.specs.Footer.{this_build, carries}
 use Rattle.footer.specs.Tables.{footer_beside, cluster_table, outcome_of}
-use Rattle.footer.specs.declared.FooterAnswer.{FooterAnswer}
-use Rattle.footer.specs.declared.FooterAnswer.TheVariants.{Accepted}
+use Rattle.footer.specs.Answer.{FooterAnswer}
 use Rattle.tree.specs.Bytes.{Bytes}
 use Rattle.tree.specs.Shape.{record_shape, ValidItems}
 use Rattle.tree.specs.EnvelopeTree.{unsummed}
@@ -24,6 +23,7 @@ use Rattle.tree.proofs.Envelope.{parts, sealed_parts}
 use Rattle.tree.proofs.Exactly.{footer_exactly}
 use Rattle.tree.proofs.Accepted.{FooterRead, footer_read_lem}
 use Rattle.tree.proofs.FooterCalls.{footer_left}
+use Rattle.std.specs.Prelude.{Ok, Err}
 
 -- by what the trees say
 
@@ -52,15 +52,20 @@ read_have e g file c m bytes k =
     let version : version_of g ≡ w.tree.version = sym (ap version_of w.bytes) ∙ version_same _ file w.tree w.right in
     rw (w.means, version) (clusters_have (carries this_build w.tree.version) file [] (footer_carrier.content w.tree.inside).clusters w.right.valid.1.1.1.1.0.2)
 
+-- the clusters that an answer counts
+abbrev clusters_in : FooterAnswer → ℕ
+clusters_in (Ok counts) = counts.clusters
+clusters_in (Err why) = 0
+
 pub checksums_by_version : ChecksumsByVersion
 unfolding ChecksumsByVersion
 checksums_by_version e g file c₀ c m₀ m clusters metadata bytes call i h =
     let k = footer_read_lem e g file (length c₀) (length m₀) (sym (ap (λ (y : FooterAnswer). is_accepted (outcome_of y)) call.answers)) in
     let rows = k.footer.clusters in
     let P = HasChecksum (carries this_build (version_of g)) in
-    let left = footer_left (footer_beside e g file) k.footer c₀ c m₀ m (Accepted clusters metadata) k.is k.room call in
+    let left = footer_left (footer_beside e g file) k.footer c₀ c m₀ m (Ok (record { clusters = clusters; metadata = metadata })) k.is k.room call in
     let count = left.answers in
-    let many : clusters ≡ length rows = cc in
+    let many : clusters ≡ length rows = ap clusters_in count in
     let inside : i < length rows = omega (arith, many, h) in
     let row : cluster_row c i ≡ get_or rows i (cluster_row c i) = ap (λ (t : List ℕ). cluster_row t i) left.clusters ∙ clusters_back.each rows (drop (length (cluster_table k.footer)) c₀) (cluster_row c i) i inside in
     subst P (sym row) (each_at P rows (cluster_row c i) i (read_have e g file (length c₀) (length m₀) bytes k) inside)

@@ -8,11 +8,11 @@ use Rattle.numbers.specs.Rows.{over}
 use Rattle.header.specs.Beside.{Beside, read}
 use Rattle.footer.specs.Footer.{Footer}
 use Rattle.footer.specs.Tables.{room_for, answer, cluster_table, metadata_table, written, Answered}
-use Rattle.footer.specs.declared.FooterAnswer.{FooterAnswer}
-use Rattle.footer.specs.declared.FooterAnswer.TheVariants.{Accepted}
+use Rattle.footer.specs.Answer.{FooterAnswer}
+use Rattle.std.specs.Prelude.{Ok}
 
 pub record FooterLeft (f : Footer) (c₀ c m₀ m : List ℕ) (r : FooterAnswer) : Type 0 where
-  pub answers : r ≡ Accepted (length f.clusters) (length f.metadata)
+  pub answers : r ≡ Ok (record { clusters = length f.clusters; metadata = length f.metadata })
   pub clusters : c ≡ over (cluster_table f) c₀
   pub metadata : m ≡ over (metadata_table f) m₀
 

@@ -21,14 +21,14 @@ use Rattle.rows.proofs.RowLaws.{page_lists_back}
 use Rattle.pages.specs.Pages.{checksum_in}
 use Rattle.column_pages.specs.ColumnPages.{bits_of, pages_of}
 use Rattle.page_list.specs.Tables.{page_list_beside, page_table, answer, written, outcome_of, Answered}
-use Rattle.page_list.specs.declared.PageListAnswer.{PageListAnswer}
-use Rattle.page_list.specs.declared.PageListAnswer.TheVariants.{Accepted}
+use Rattle.page_list.specs.Answer.{PageListAnswer}
 use Rattle.tree.specs.Bytes.{Bytes}
 use Rattle.tree.specs.Shape.{ValidItems}
 use Rattle.tree.specs.PageListTree.{PageContent, page_row as row_of, page_shape, pages_in, pages_shape, page_list_carrier, page_list_shape, page_rows}
 use Rattle.tree.specs.Ranges.{InsideFile, PagesInsideFile}
 use Rattle.tree.proofs.Exactly.{page_list_exactly}
 use Rattle.tree.proofs.Accepted.{pages_read_lem}
+use Rattle.std.specs.Prelude.{Ok}
 
 -- a property that every page has that keeps the rules, where its column's elements have so many bits: the rows of one column, then of all
 module _ (file : ℕ) (bits : List ℕ) (P : PageRow → Type 0) (valid : (c : ℕ) (p : PageContent) → (page_shape file (get_or bits c 0)).Valid p → P (row_of c p)) where
@@ -57,7 +57,7 @@ pub record EachRow (P : List ℕ → PageRow → Type 0) (e p : List ℕ) (n : �
   pub reads : header_of e ≡ found header place
   pub has : (i : ℕ) → i < n → P (bits_of header.lists.columns) (page_row p i)
 
-pub each_row : (e l : List ℕ) (entries file : ℕ) (p₀ p : List ℕ) (n : ℕ) → Bytes l → Answered (page_list_beside e l entries file) p₀ p (Accepted n)
+pub each_row : (e l : List ℕ) (entries file : ℕ) (p₀ p : List ℕ) (n : ℕ) → Bytes l → Answered (page_list_beside e l entries file) p₀ p (Ok n)
     → (P : List ℕ → PageRow → Type 0) → ((bits : List ℕ) (c : ℕ) (x : PageContent) → (page_shape file (get_or bits c 0)).Valid x → P bits (row_of c x))
     → EachRow P e p n
 unfolding answer written page_list_shape
@@ -68,7 +68,7 @@ each_row e l entries file p₀ p n bytes call P valid =
     let bits : List ℕ = bits_of b.header.lists.columns in
     let (w, _) = page_list_exactly.sound b.header entries file l pss b.stop bytes b.inner in
     let each : Each (Each (P bits)) pss = rw w.means (columns_each file bits (P bits) (valid bits) 0 [] (page_list_carrier.content w.tree.inside) refl w.right.valid.2) in
-    let count : Accepted n ≡ Accepted (pages_of pss) = call.answers ∙ ap (answer (length p₀)) k.is ∙ rw k.room refl in
+    let count : Ok n ≡ Ok (pages_of pss) = call.answers ∙ ap (answer (length p₀)) k.is ∙ rw k.room refl in
     let many : n ≡ pages_of pss = cc in
     let table : p ≡ page_table pss ++ drop (length (page_table pss)) p₀ = call.pages_are ∙ ap (written (length p₀) p₀) k.is ∙ rw k.room refl in
     record {

@@ -5,9 +5,9 @@ use Rattle.outcome.specs.Outcome.{Outcome, accepted_with, is_accepted}
 use Rattle.rows.specs.Words.{field_width, column_width, alias_width, cluster_width, link_width, page_width}
 use Rattle.envelope.specs.Envelope.{ceiling, checksum_of}
 use Rattle.header.specs.Tables.{header_of, outcome_of, Answered}
-use Rattle.header.specs.declared.HeaderAnswer.{HeaderAnswer}
+use Rattle.header.specs.Answer.{HeaderAnswer}
 use Rattle.footer.specs.Tables.{footer_beside, outcome_of as footerOutcome, Answered as AnsweredFooter}
-use Rattle.footer.specs.declared.FooterAnswer.{FooterAnswer}
+use Rattle.footer.specs.Answer.{FooterAnswer}
 use Rattle.column_pages.specs.ColumnPages.{bits_of}
 use Rattle.pages.specs.Pages.{elements_of}
 use Rattle.totals.specs.Totals.{totals}
@@ -15,7 +15,7 @@ use Rattle.std.specs.Prelude.{Option, None}
 use Rattle.rows.specs.declared.FieldNumber.{FieldNumber}
 use Rattle.rows.specs.declared.PageRow.{PageRow}
 use Rattle.page_list.specs.Tables.{page_list_beside, outcome_of as pageListOutcome, Answered as AnsweredPages}
-use Rattle.page_list.specs.declared.PageListAnswer.{PageListAnswer}
+use Rattle.page_list.specs.Answer.{PageListAnswer}
 use Rattle.tree.specs.Bytes.{Bytes}
 use Rattle.tree.specs.HeaderTree.{FieldContent, HeaderContent, HeaderTree, render_header, tables_of, RightHeader}
 use Rattle.tree.specs.FooterTree.{FooterContent, footer_carrier, FooterTree, render_footer, RightFooter}

@@ -5,9 +5,9 @@ use Rattle.rows.specs.Tables.{field_row}
 use Rattle.rows.specs.declared.FieldTexts.{FieldTexts}
 use Rattle.header.specs.Tables.{header_of, Answered}
 use Rattle.header.specs.declared.HeaderTables.{HeaderTables}
-use Rattle.header.specs.declared.HeaderAnswer.TheVariants.{Accepted}
 use Rattle.tree.specs.Bytes.{Bytes}
 use Rattle.tree.specs.Shape.{chars}
+use Rattle.std.specs.Prelude.{Ok}
 
 -- the strings of a field's row, which stand in the envelope e
 pub record FieldText (e : List ℕ) (t : FieldTexts) : Type 0 where
@@ -24,4 +24,4 @@ pub record HeaderText (e f : List ℕ) (x : HeaderTables) : Type 0 where
 
 unfoldable pub StringsAreText : Type 0
 StringsAreText =
-    (e f₀ f c₀ c a₀ a : List ℕ) (x : HeaderTables) → Bytes e → Answered (header_of e) f₀ f c₀ c a₀ a (Accepted x) → HeaderText e f x
+    (e f₀ f c₀ c a₀ a : List ℕ) (x : HeaderTables) → Bytes e → Answered (header_of e) f₀ f c₀ c a₀ a (Ok x) → HeaderText e f x

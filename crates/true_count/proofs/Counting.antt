@@ -21,16 +21,16 @@ use Rattle.page_rules.specs.Page.{accept, refuse, unless, RefusedBy, readable, m
 use Rattle.page_rules.proofs.Types.{bit_size}
 use Rattle.page_rules.proofs.Laid.{chosen_left, elements_bit}
 use Rattle.page_rules.proofs.Decoding.{unless_by, Decodes, decodes, accepted, clear_byte, decoded_accepted}
-use Rattle.true_count.specs.declared.CountAnswer.TheVariants.{Counted, Refused}
 use Rattle.true_count.specs.True.{OutcomeTells, trues, bit_type, count_outcome, CountsDecoded, RefusedAlike, RefusedAsDecoding, CountNumbers}
 use Rattle.true_count.proofs.Bits.{Bytes, little_front, trues_bytes}
+use Rattle.std.specs.Prelude.{Ok, Err}
 
 pub outcome_tells : OutcomeTells
 unfolding OutcomeTells RefusalTells
-outcome_tells (Counted m) (Counted k) e = ap Counted (ap (λ (o : Outcome). get_or o.counts 0 0) e)
-outcome_tells (Counted m) (Refused k) e = absurd (refusal_tells 4 k 1 (m ∷ []) (lit< tt) (sym e))
-outcome_tells (Refused m) (Counted k) e = absurd (refusal_tells 4 m 1 (k ∷ []) (lit< tt) e)
-outcome_tells (Refused m) (Refused k) e = ap Refused (ap (λ (o : Outcome). o.number) e)
+outcome_tells (Ok m) (Ok k) e = ap Ok (ap (λ (o : Outcome). get_or o.counts 0 0) e)
+outcome_tells (Ok m) (Err k) e = absurd (refusal_tells 4 k 1 (m ∷ []) (lit< tt) (sym e))
+outcome_tells (Err m) (Ok k) e = absurd (refusal_tells 4 m 1 (k ∷ []) (lit< tt) e)
+outcome_tells (Err m) (Err k) e = ap Err (ap (λ (o : Outcome). o.number) e)
 
 -- no more elements are true than there are
 trues_few : (xs : List ℕ) → trues xs ≤ length xs

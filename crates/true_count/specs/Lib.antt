@@ -1,2 +1,3 @@
 pub mod True
 pub mod Samples
+pub mod Answer

@@ -1,15 +1,14 @@
 -- How many elements of a Bit page are true.
-use Rattle.std.specs.Prelude.{ℕ, ◌+◌, ◌≤◌, List, [], ◌∷◌, Bool, true, ◌⊎◌, ◌≡◌, length, eqb}
+use Rattle.std.specs.Prelude.{ℕ, ◌+◌, ◌≤◌, List, [], ◌∷◌, Bool, true, ◌⊎◌, ◌≡◌, length, eqb, Ok, Err}
 use Rattle.numbers.specs.Choice.{pick}
 use Rattle.outcome.specs.Outcome.{Outcome, is_accepted}
 use Rattle.page_rules.specs.Page.{accept, refuse, RefusedBy, elements, decode_outcome, decoded, chosen}
-use Rattle.true_count.specs.declared.CountAnswer.{CountAnswer}
-use Rattle.true_count.specs.declared.CountAnswer.TheVariants.{Counted, Refused}
+use Rattle.true_count.specs.Answer.{CountAnswer}
 
 -- a page call's answer, its count that of the true elements
 abbrev pub outcome_of : CountAnswer → Outcome
-outcome_of (Counted m) = accept m
-outcome_of (Refused k) = refuse k
+outcome_of (Ok m) = accept m
+outcome_of (Err k) = refuse k
 
 -- an answer is told by what it says
 unfoldable pub OutcomeTells : Type 0

@@ -6,16 +6,10 @@ mod ones;
 ghost use Rattle.std.specs.Prelude.{◌≡◌};
 ghost use Rattle.true_count.specs.True.{outcome_of, count_outcome};
 
-use page_rules::PageAnswer;
 use page_rules::answer::decode_answer;
 
-#[derive(Clone, Copy)]
-pub enum CountAnswer {
-    // How many elements are true.
-    Counted(u64),
-    // The number; the envelope is 4.
-    Refused(u16),
-}
+// How many elements are true, or the number of the rule that refuses the page; the envelope is 4.
+pub type CountAnswer = Result<u64, u16>;
 
 // The bits of an element of a Bit page, by which such a page is told.
 const BIT_WIDTH: u64 = 1;
@@ -24,11 +18,7 @@ const BIT_WIDTH: u64 = 1;
 pub fn count_true(elements: usize, checksum: bool, page: &[u8]) -> CountAnswer
     ensures { outcome_of result ≡ count_outcome elements checksum page.now }
 {
-    match decode_answer(BIT_WIDTH, elements, checksum, page, elements, 0) {
-        PageAnswer::Accepted(_) => {
-            let size = (elements + 7) / 8;
-            CountAnswer::Counted(ones::count_all(&page[..size]))
-        }
-        PageAnswer::Refused(number) => CountAnswer::Refused(number),
-    }
+    decode_answer(BIT_WIDTH, elements, checksum, page, elements, 0)?;
+    let size = (elements + 7) / 8;
+    Ok(ones::count_all(&page[..size]))
 }

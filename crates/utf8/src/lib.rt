@@ -88,6 +88,7 @@ fn walk(s: &[u8], from: usize, end: usize) -> Option<usize>
     ensures { result ≡ read_to s.now from end }
 {
     let mut at = from;
+    // No `for`: the place moves on by the length of a sequence.
     while at < end {
         let width = sequence_at(s, at)?;
         at += width;
@@ -113,6 +114,7 @@ fn blocks(s: &[u8], from: usize, size: usize) -> Option<usize>
     ensures { result ≡ blocks_from (length s.now) s.now size from }
 {
     let mut at = from;
+    // No `for`: a block ends where the sequence that crosses its end does.
     while size <= s.len() - at {
         at = block(s, at, size)?;
     }

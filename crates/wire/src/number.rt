@@ -6,7 +6,8 @@ ghost use Rattle.wire.specs.Answers.{as_step};
 use crate::faults::fault_at;
 use crate::{Kind, Step};
 
-// The number of two bytes at `at`; and likewise of four and eight.
+// The number of two bytes at `at`; and likewise of four and eight. A width is a load of its own: as a parameter it would be chosen among at
+// run time.
 pub fn number_2(s: &[u8], at: usize) -> Step<u64>
     ensures { as_step result ≡ number 2 s.now at }
 {
@@ -38,7 +39,7 @@ pub fn number_8(s: &[u8], at: usize) -> Step<u64>
 }
 
 // A number that was read at `at`, and the place after it, after a verdict on it: 0 where it is good, else the number of the
-// first test that fails.
+// first test that fails. Who reads a number and judges it takes two lines; with the verdict as a closure it would take as many.
 pub fn judge(value: u64, at: usize, next: usize, verdict: u16) -> Step<u64>
     ensures { as_step result ≡ judged (λ _. verdict) at (found value next) }
 {

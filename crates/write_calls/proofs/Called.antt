@@ -8,15 +8,15 @@ use Rattle.outcome.specs.Outcome.{code_of}
 use Rattle.header.specs.Beside.{Beside}
 use Rattle.writing.specs.Piece.{Piece}
 use Rattle.writing.specs.Answers.{Answered, outcome_of}
-use Rattle.writing.specs.declared.WriteAnswer.{WriteAnswer}
-use Rattle.writing.specs.declared.WriteAnswer.TheVariants.{Written, Refused}
+use Rattle.writing.specs.Answer.{WriteAnswer}
 use Rattle.answers.specs.Handed.{short_result}
 use Rattle.answers.proofs.HandedLaws.{given_room, given_short, hands_nothing, tells}
 use Rattle.write_calls.specs.Calls.{WriteCall}
+use Rattle.std.specs.Prelude.{Ok, Err}
 
 write_words : (r : WriteAnswer) → length (outcome_of r).counts ≡ 1
-write_words (Written long) = refl
-write_words (Refused envelope number) = refl
+write_words (Ok long) = refl
+write_words (Err why) = refl
 
 pub write_short : (k : ℕ) (x : Beside Piece) (out w : List ℕ) → length w < 1 → WriteCall k x out out w w short_result
 write_short k x out w short = record { hands_over = hands_nothing 1 _ _ w short; bytes_are = given_short 1 w _ _ short }

@@ -8,6 +8,7 @@ ghost use Rattle.writing.specs.Answers.{outcome_of, header_to_write, footer_to_w
 ghost use Rattle.write_calls.specs.Calls.{WriteCall, texts_at};
 
 use answers::RESULT_TOO_SHORT;
+use header::Refusal;
 use records::HeaderTexts;
 use rows::Text;
 use writing::WriteAnswer;
@@ -82,11 +83,11 @@ fn tell_written(answer: WriteAnswer, res: &mut [u64]) -> u32
     ensures leaves { res.new ≡ put res.old 0 (outcome_of answer).counts }
 {
     match answer {
-        WriteAnswer::Written(long) => {
+        Ok(long) => {
             rows::put_words(res, 0, &[long as u64]);
             0
         }
-        WriteAnswer::Refused(envelope, number) => {
+        Err(Refusal { envelope, number }) => {
             rows::put_words(res, 0, &[0; 1]);
             256 * (envelope as u32) + number as u32
         }

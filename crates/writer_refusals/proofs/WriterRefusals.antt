@@ -20,16 +20,16 @@ use Rattle.writing.specs.Rows.{header_rows, footer_rows, page_rows_in}
 use Rattle.writing.specs.Footer.{footer_piece}
 use Rattle.writing.specs.PageList.{page_list_piece}
 use Rattle.writing.specs.Answers.{verdict, answer, beside_header, outcome_of}
-use Rattle.writing.specs.declared.WriteAnswer.{WriteAnswer}
-use Rattle.writing.specs.declared.WriteAnswer.TheVariants.{Written, Refused}
+use Rattle.writing.specs.Answer.{WriteAnswer}
 use Rattle.writer_refusals.specs.WriterRefusals.{to_write_header, to_write_footer, to_write_page_list, HeaderWriterRefusals, FooterWriterRefusals, PageListWriterRefusals}
 use Rattle.writer_refusals.proofs.Giving.{Gives}
 use Rattle.writer_refusals.proofs.Numbers.{header_gives, footer_gives, page_list_gives}
+use Rattle.std.specs.Prelude.{Ok, Err}
 
 -- a piece as it is answered, where refusals of envelope k with these numbers are possible, and acceptance is
-module _ (k : ℕ) (ns : List ℕ) (refusals : ℕ → ℕ → Bool) (own : (n : ℕ) → among (with_room ns) n ≡ true → possible refusals (outcome_of (Refused k n)) ≡ true) (room : ℕ) (x : Piece) where
+module _ (k : ℕ) (ns : List ℕ) (refusals : ℕ → ℕ → Bool) (own : (n : ℕ) → among (with_room ns) n ≡ true → possible refusals (outcome_of (Err (record { envelope = k; number = n }))) ≡ true) (room : ℕ) (x : Piece) where
   by_number : (b : Bool) → pick b true (among ns x.number) ≡ true → (c : Bool)
-      → possible refusals (outcome_of (pick b (pick c (Written x.long) (Refused k 20)) (Refused k x.number))) ≡ true
+      → possible refusals (outcome_of (pick b (pick c (Ok x.long) (Err (record { envelope = k; number = 20 }))) (Err (record { envelope = k; number = x.number })))) ≡ true
   unfolding among
   by_number true e true = refl
   by_number true e false = own 20 refl
@@ -47,7 +47,7 @@ header_writer_refusals strings texts fields columns aliases out₀ out r call =
     ∙ piece_possible 1 to_write_header (of_first (with_room to_write_header)) (λ n h. h) (length out₀) _ (header_gives strings texts (header_rows fields columns aliases)))
 
 -- beside a header, whose refusals come first
-beside_possible : (k room : ℕ) (ns : List ℕ) → ((n : ℕ) → among (with_room ns) n ≡ true → possible (of_beside k ns) (outcome_of (Refused k n)) ≡ true) → (x : Header → Piece)
+beside_possible : (k room : ℕ) (ns : List ℕ) → ((n : ℕ) → among (with_room ns) n ≡ true → possible (of_beside k ns) (outcome_of (Err (record { envelope = k; number = n }))) ≡ true) → (x : Header → Piece)
     → ((h : Header) → Gives ns (x h)) → (e : List ℕ) → possible (of_beside k ns) (outcome_of (answer k room (beside_header x (header_of e)))) ≡ true
 unfolding answer HeaderNumbers
 beside_possible k room ns own x gives e = by (header_of e) (header_numbers e)

@@ -3,7 +3,7 @@ use Rattle.std.specs.Prelude.{ℕ, List, [], ◌∷◌}
 use Rattle.records.specs.declared.HeaderTexts.{HeaderTexts}
 use Rattle.refusals.specs.Refusals.{with_room, of_first, of_beside, Told}
 use Rattle.writing.specs.Answers.{header_to_write, footer_to_write, page_list_to_write, outcome_of, Answered}
-use Rattle.writing.specs.declared.WriteAnswer.{WriteAnswer}
+use Rattle.writing.specs.Answer.{WriteAnswer}
 
 -- A number too wide for its place is 25. Feature words, frames, sizes and checksums are written as they are due, and nothing is spare.
 

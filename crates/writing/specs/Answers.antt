@@ -14,8 +14,8 @@ use Rattle.writing.specs.Rows.{header_rows, footer_rows, page_rows_in}
 use Rattle.writing.specs.Header.{header_piece}
 use Rattle.writing.specs.Footer.{footer_piece}
 use Rattle.writing.specs.PageList.{page_list_piece}
-use Rattle.writing.specs.declared.WriteAnswer.{WriteAnswer}
-use Rattle.writing.specs.declared.WriteAnswer.TheVariants.{Written, Refused}
+use Rattle.writing.specs.Answer.{WriteAnswer}
+use Rattle.std.specs.Prelude.{Ok, Err}
 
 -- a piece is written: nothing of it is refused, and so many lent bytes are enough
 abbrev pub is_written : ℕ → Piece → Bool
@@ -23,12 +23,12 @@ is_written room x = both (eqb x.number 0) (leb x.long room)
 
 -- a piece that is written as envelope number k: room is the last to be tested
 unfoldable pub verdict : ℕ → ℕ → Piece → WriteAnswer
-verdict k room x = pick (eqb x.number 0) (pick (leb x.long room) (Written x.long) (Refused k 20)) (Refused k x.number)
+verdict k room x = pick (eqb x.number 0) (pick (leb x.long room) (Ok x.long) (Err (record { envelope = k; number = 20 }))) (Err (record { envelope = k; number = x.number }))
 
 -- the answer, for so many lent bytes; what is written beside a header has the header's refusal first
 unfoldable pub answer : ℕ → ℕ → Beside Piece → WriteAnswer
 answer k room (read x) = verdict k room x
-answer k room (refusal envelope f) = Refused envelope f.number
+answer k room (refusal envelope f) = Err (record { envelope = envelope; number = f.number })
 
 -- the lent bytes after the call: the bytes in front where the piece is written, else as they were
 unfoldable pub left : List ℕ → Beside Piece → List ℕ
@@ -53,8 +53,8 @@ page_list_to_write header entries file pages = beside_header (λ h. page_list_pi
 
 -- the answer in document 01's terms: the envelope and the number of a refusal, and how many bytes were written
 abbrev pub outcome_of : WriteAnswer → Outcome
-outcome_of (Written n) = accepted_with (n ∷ [])
-outcome_of (Refused envelope number) = refused_in envelope number 1
+outcome_of (Ok n) = accepted_with (n ∷ [])
+outcome_of (Err why) = refused_in why.envelope why.number 1
 
 -- the outcome that is due, for so many lent bytes
 abbrev pub reported : ℕ → ℕ → Beside Piece → Outcome

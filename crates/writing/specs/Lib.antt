@@ -6,3 +6,4 @@ pub mod PageList
 pub mod Answers
 pub mod Promises
 pub mod UpTo
+pub mod Answer

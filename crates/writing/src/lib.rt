@@ -1,13 +1,10 @@
 // What the writers of envelopes answer, and a page's row as it is lent to them. The rules of writing and their theorems are in specs/ and proofs/.
 #![tactic(auto)]
 
-#[derive(Clone, Copy)]
-pub enum WriteAnswer {
-    // How many bytes were written.
-    Written(usize),
-    // The envelope, and the number.
-    Refused(u16, u16),
-}
+use header::Refusal;
+
+// How many bytes were written, or a refusal.
+pub type WriteAnswer = Result<usize, Refusal>;
 
 // A row of the lent table of pages: any number may stand for bit 30.
 #[derive(Clone, Copy)]

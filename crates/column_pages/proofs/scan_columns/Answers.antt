@@ -13,9 +13,6 @@ use Rattle.column_pages.proofs.scan_columns.Goals as goal
 pub loop-i-init : goal.loop-i-init
 loop-i-init c = scanned_none
 
-pub bounds-elements-i : goal.bounds-elements-i
-bounds-elements-i c = let p = c.requires in omega arith
-
 pub overflow_add-total : goal.overflow_add-total
 overflow_add-total c = let few = scanned_fits c.loop-i.invariant c.loop-i-test.true (sym (ap as_step c.in-Ok.is) ∙ c.scan_page_list.ensures ∙ ap (λ (r : ColumnRow). mapped tally_of (pages c.args.strict c.args.file c.loop-i.i (r.bits % 2 ^ 16) c.loop-i.total c.args.s.now c.loop-i.at)) c.column_row-row.ensures) in omega arith
 

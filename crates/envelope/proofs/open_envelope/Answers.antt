@@ -16,9 +16,6 @@ pub returns-then-e-lt8 : goal.returns-then-e-lt8
 unfolding opened
 returns-then-e-lt8 c = simp (le-leb _ _ c.if-e-gt-MOST_BYTES.false, lt-leb _ _ c.if-e-lt8.true, c.fault_at-then-e-lt8.ensures)
 
-pub slice_bounds-crc32-end : goal.slice_bounds-crc32-end
-slice_bounds-crc32-end c = let e = c.args.e.now in sym (length-take-le (length e - 4) e (omega arith))
-
 pub returns-then-sum-little_4 : goal.returns-then-sum-little_4
 unfolding opened
 returns-then-sum-little_4 c = simp (le-leb _ _ c.if-e-gt-MOST_BYTES.false, le-leb _ _ c.if-e-lt8.false, ← c.crc32-sum.ensures, ← (c.little_4.ensures.0.there (omega arith)), ne_eqb _ _ c.if-sum-little_4.true, c.fault_at-then-sum-little_4.ensures)

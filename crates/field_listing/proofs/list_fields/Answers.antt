@@ -7,7 +7,6 @@ use Rattle.header_payload.specs.Answers.{scan_of}
 use Rattle.header_reader.proofs.ScanLaws.{scanned, all_there}
 use Rattle.moves.proofs.Laws.{parents_long}
 use Rattle.field_listing.proofs.Listed.{refused_answer, listed_answer}
-use borrow.Author.Rules.{rules}
 use Rattle.field_listing.proofs.list_fields.Goals as goal
 use Rattle.wire.specs.Answers.{as_step}
 

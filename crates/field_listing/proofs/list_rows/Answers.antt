@@ -9,7 +9,6 @@ use Rattle.listing.specs.Order.{Entry}
 use Rattle.listing.specs.Lines.{entry_line, marked}
 use Rattle.listing.specs.Answers.{fitted, placed}
 use Rattle.field_listing.proofs.Entries.{count_few, words_there, words_long, entries_are}
-use borrow.Author.Rules.{rules}
 use Rattle.field_listing.proofs.list_rows.Goals as goal
 
 pub overflow_mul-words : goal.overflow_mul-words

@@ -12,15 +12,6 @@ use borrow.Author.Rules.{rules}
 use Rattle.header_payload.proofs.scan_payload.Goals as goal
 use Rattle.wire.specs.Answers.{as_step}
 
-pub shape_of-fields-in-Ok : goal.shape_of-fields-in-Ok
-shape_of-fields-in-Ok c = c.scan_field_list-n.auto.rows
-
-pub shape_of-columns-in-Ok : goal.shape_of-columns-in-Ok
-shape_of-columns-in-Ok c = c.scan_column_list-m.auto.rows
-
-pub shape_of-aliases-in-Ok : goal.shape_of-aliases-in-Ok
-shape_of-aliases-in-Ok c = c.scan_alias_list-l.auto.rows
-
 pub returns-in-Ok : goal.returns-in-Ok
 returns-in-Ok c = let a = c.args in
     let f = c.scan_field_list-n.ensures in
@@ -28,15 +19,6 @@ returns-in-Ok c = let a = c.args in
     let l = c.scan_alias_list-l.ensures in
     let e = sym (ap as_step c.in-Ok.is) ∙ c.gather.ensures ∙ scan_is a.strict a.s.now c.texts_at-texts.ensures f.result_value f.kept_2 m.result_value l.result_value in
     record { result_value = e; settled = settled_found a.strict a.s.now c.texts_at-texts.ensures f.result_value m.result_value f.kept f.kept_2 f.kept_3 m.kept l.kept (mapped_found scan_of (whole a.strict (payload a.strict) a.s.now 4) e).was }
-
-pub shape_of-fields-in-Err : goal.shape_of-fields-in-Err
-shape_of-fields-in-Err c = c.clear.auto.fields ∙ c.scan_field_list-n.auto.rows
-
-pub shape_of-columns-in-Err : goal.shape_of-columns-in-Err
-shape_of-columns-in-Err c = c.clear.auto.columns ∙ c.scan_column_list-m.auto.rows
-
-pub shape_of-aliases-in-Err : goal.shape_of-aliases-in-Err
-shape_of-aliases-in-Err c = c.clear.auto.aliases ∙ c.scan_alias_list-l.auto.rows
 
 pub returns-in-Err : goal.returns-in-Err
 returns-in-Err c = let a = c.args in

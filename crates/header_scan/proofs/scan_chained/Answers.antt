@@ -18,30 +18,12 @@ chain_fault-requires c = let a = c.args in
     let e = sym (ap as_step c.in_ok-scan.was) ∙ c.scan_payload.ensures.result_value in
     fields_room a.strict a.s.now c.scan_payload.ensures.settled e
 
-pub shape_of-fields-in-None : goal.shape_of-fields-in-None
-shape_of-fields-in-None c = c.scan_payload.auto.fields
-
-pub shape_of-columns-in-None : goal.shape_of-columns-in-None
-shape_of-columns-in-None c = c.scan_payload.auto.columns
-
-pub shape_of-aliases-in-None : goal.shape_of-aliases-in-None
-shape_of-aliases-in-None c = c.scan_payload.auto.aliases
-
 pub returns-in-None : goal.returns-in-None
 returns-in-None c = let a = c.args in
     let k = c.scan_payload.ensures.settled in
     let e = sym (ap as_step c.in_ok-scan.was) ∙ c.scan_payload.ensures.result_value in
     let w = sym c.endless_chain.ensures ∙ c.in-None.is in
     record { result_value = chains_end a.strict a.s.now k e w; settled = settled_chained a.strict a.s.now k e w }
-
-pub shape_of-fields-in-Some : goal.shape_of-fields-in-Some
-shape_of-fields-in-Some c = c.clear.auto.fields ∙ c.scan_payload.auto.fields
-
-pub shape_of-columns-in-Some : goal.shape_of-columns-in-Some
-shape_of-columns-in-Some c = c.clear.auto.columns ∙ c.scan_payload.auto.columns
-
-pub shape_of-aliases-in-Some : goal.shape_of-aliases-in-Some
-shape_of-aliases-in-Some c = c.clear.auto.aliases ∙ c.scan_payload.auto.aliases
 
 pub returns-in-Some : goal.returns-in-Some
 returns-in-Some c = let a = c.args in
@@ -51,15 +33,6 @@ returns-in-Some c = let a = c.args in
     let z = c.clear.ensures in
     let same : ℕ → List ℕ = λ n. replicate n 0 in
     record { result_value = rw (w, c.chain_fault.ensures); settled = settled_refused w z.parents_after z.flags_after (z.fields_after ∙ ap same c.scan_payload.auto.fields) (z.columns_after ∙ ap same c.scan_payload.auto.columns) (z.aliases_after ∙ ap same c.scan_payload.auto.aliases) }
-
-pub shape_of-fields-in_err-scan : goal.shape_of-fields-in_err-scan
-shape_of-fields-in_err-scan c = c.scan_payload.auto.fields
-
-pub shape_of-columns-in_err-scan : goal.shape_of-columns-in_err-scan
-shape_of-columns-in_err-scan c = c.scan_payload.auto.columns
-
-pub shape_of-aliases-in_err-scan : goal.shape_of-aliases-in_err-scan
-shape_of-aliases-in_err-scan c = c.scan_payload.auto.aliases
 
 pub returns-in_err-scan : goal.returns-in_err-scan
 returns-in_err-scan c = let a = c.args in

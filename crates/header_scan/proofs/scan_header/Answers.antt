@@ -5,26 +5,8 @@ use Rattle.header_payload.proofs.PayloadLaws.{settled_refused}
 use borrow.Author.Rules.{rules}
 use Rattle.header_scan.proofs.scan_header.Goals as goal
 
-pub shape_of-fields-in-Ok : goal.shape_of-fields-in-Ok
-shape_of-fields-in-Ok c = c.scan_chained.auto.fields
-
-pub shape_of-columns-in-Ok : goal.shape_of-columns-in-Ok
-shape_of-columns-in-Ok c = c.scan_chained.auto.columns
-
-pub shape_of-aliases-in-Ok : goal.shape_of-aliases-in-Ok
-shape_of-aliases-in-Ok c = c.scan_chained.auto.aliases
-
 pub returns-in-Ok : goal.returns-in-Ok
 returns-in-Ok c = rw (header_open c.args.envelope.now (sym c.open_envelope.ensures ∙ ap open_step c.in-Ok.is), ← c.up_to.ensures) c.scan_chained.ensures
-
-pub shape_of-fields-in-Err : goal.shape_of-fields-in-Err
-shape_of-fields-in-Err c = c.clear.auto.fields
-
-pub shape_of-columns-in-Err : goal.shape_of-columns-in-Err
-shape_of-columns-in-Err c = c.clear.auto.columns
-
-pub shape_of-aliases-in-Err : goal.shape_of-aliases-in-Err
-shape_of-aliases-in-Err c = c.clear.auto.aliases
 
 pub returns-in-Err : goal.returns-in-Err
 returns-in-Err c = let e = header_refused_lem c.args.envelope.now (sym c.open_envelope.ensures ∙ ap open_step c.in-Err.is) in

@@ -7,9 +7,6 @@ use borrow.Author.Rules.{rules}
 use Rattle.links.proofs.scan_links.Goals as goal
 use Rattle.wire.specs.Answers.{as_step}
 
-pub loop-i-init : goal.loop-i-init
-loop-i-init c = reached_none
-
 pub loop-i-preserved : goal.loop-i-preserved
 loop-i-preserved c = reached_more c.loop-i.invariant c.loop-i-test.true (sym c.link_at.ensures ∙ ap as_step c.in-Ok.is)
 

@@ -17,6 +17,3 @@ returns-then-count-lt268435456 c = let room = list_room _ _ (sym c.list_stop.ens
 pub returns-else-count-lt268435456 : goal.returns-else-count-lt268435456
 returns-else-count-lt268435456 c = let room = list_room _ _ (sym c.list_stop.ensures ∙ ap as_step c.in_ok-start.was) in
     simp (← c.list_stop.ensures, c.in_ok-start.was, ← (c.little_4-count.ensures.0.there (omega arith)), le-ltb _ _ c.if-count-lt268435456.false, c.fault_at.ensures)
-
-pub returns-in_err-start : goal.returns-in_err-start
-returns-in_err-start c = simp (passed_on c.from_residual.result _ c.from_residual.ensures.1, ← c.list_stop.ensures, c.in_err-start.was)

@@ -6,9 +6,6 @@ use borrow.Author.Rules.{rules}
 use Rattle.moves.proofs.parent_moves.Goals as goal
 use Rattle.wire.specs.Answers.{as_step}
 
-pub slice_bounds-total_moves-end : goal.slice_bounds-total_moves-end
-slice_bounds-total_moves-end c = parents_long c.args.envelope.now (sym (ap as_step c.in-Ok.is) ∙ c.scan_header.ensures.result_value) c.scan_header.ensures.settled
-
 pub returns-in-Ok : goal.returns-in-Ok
 returns-in-Ok c = scan_counted c.args.envelope.now (sym (ap as_step c.in-Ok.is) ∙ c.scan_header.ensures.result_value) c.scan_header.ensures.settled c.total_moves-total.ensures
 

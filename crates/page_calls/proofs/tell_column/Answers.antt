@@ -1,8 +1,8 @@
 use mathlib.Core.Path.{refl}
 use Rattle.page_calls.proofs.tell_column.Goals as goal
 
-pub returns-in-Decoded : goal.returns-in-Decoded
-returns-in-Decoded c = rw c.in-Decoded.is (record { answers = refl; leaves = c.put_words.ensures })
+pub returns-in-Ok : goal.returns-in-Ok
+returns-in-Ok c = rw c.in-Ok.is (record { answers = refl; leaves = c.put_words.ensures })
 
-pub returns-in-Refused : goal.returns-in-Refused
-returns-in-Refused c = rw c.in-Refused.is (record { answers = refl; leaves = c.put_words-in-Refused.ensures })
+pub returns-in-Err : goal.returns-in-Err
+returns-in-Err c = rw c.in-Err.is (record { answers = refl; leaves = c.put_words-in-Err.ensures })

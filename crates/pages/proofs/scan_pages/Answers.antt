@@ -11,9 +11,6 @@ use Rattle.wire.specs.Answers.{as_step}
 pub loop-i-init : goal.loop-i-init
 loop-i-init c = tallied_none
 
-pub overflow_add-elements : goal.overflow_add-elements
-overflow_add-elements c = let few = (subst FewElements c.in-Ok.is c.page_at.ensures.few_elements) in let sum = c.loop-i.invariant.few in let p = c.requires in omega arith
-
 pub loop-i-preserved : goal.loop-i-preserved
 loop-i-preserved c = tallied_more c.loop-i.invariant c.loop-i-test.true (sym c.page_at.ensures.result_value ∙ ap as_step c.in-Ok.is) (subst FewElements c.in-Ok.is c.page_at.ensures.few_elements)
 

@@ -1,8 +1,8 @@
 -- `same_answers` meets its contract: each arm is given which answers they are.
 use Rattle.same_tables.proofs.same_answers.Goals as goal
 
-pub returns-in-Accepted-y : goal.returns-in-Accepted-y
-returns-in-Accepted-y c = rw (c.in-Accepted.is, c.in-Accepted-y.is) c.same_read.ensures
+pub returns-in-Ok-y : goal.returns-in-Ok-y
+returns-in-Ok-y c = rw (c.in-Ok.is, c.in-Ok-y.is) c.same_read.ensures
 
-pub returns-in-Refused-y : goal.returns-in-Refused-y
-returns-in-Refused-y c = rw (c.in-Accepted.is, c.in-Refused-y.is)
+pub returns-in-Err-y : goal.returns-in-Err-y
+returns-in-Err-y c = rw (c.in-Ok.is, c.in-Err-y.is)

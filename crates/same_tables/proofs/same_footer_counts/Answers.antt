@@ -2,8 +2,8 @@
 use borrow.Author.Tests.{eq-eqb, ne_eqb}
 use Rattle.same_tables.proofs.same_footer_counts.Goals as goal
 
-pub returns-then-c-d : goal.returns-then-c-d
-returns-then-c-d c = simp (c.in-Accepted.is, c.in-Accepted-y.is, ne_eqb _ _ c.if-c-d.true)
+pub returns-then-m-n : goal.returns-then-m-n
+returns-then-m-n c = simp (c.in-Ok.is, c.in-Ok-y.is, ne_eqb _ _ c.if-m-n.true)
 
-pub returns-else-c-d : goal.returns-else-c-d
-returns-else-c-d c = simp (c.in-Accepted.is, c.in-Accepted-y.is, eq-eqb _ _ c.if-c-d.false)
+pub returns-else-m-n : goal.returns-else-m-n
+returns-else-m-n c = simp (c.in-Ok.is, c.in-Ok-y.is, eq-eqb _ _ c.if-m-n.false)

@@ -10,9 +10,6 @@ use Rattle.envelope.specs.Features.{features}
 use Rattle.envelope.proofs.FeatureLaws.{features_last, features_more, features_refused, features_none}
 use Rattle.envelope.proofs.features.features_at.Goals as goal
 
-pub loop-done-init : goal.loop-done-init
-loop-done-init c = let all : length c.args.s.now ≡ length c.args.s.now - 0 = omega arith in ap (λ n. features n c.args.s.now c.args.start) all
-
 pub returns-then-word-eq0 : goal.returns-then-word-eq0
 returns-then-word-eq0 c = sym (c.loop-done.invariant ∙ features_last _ _ _ (omega (arith, c.loop-done-test.true)) c.if-word-eq0.true (sym c.feature_word.ensures ∙ ap as_step c.in_ok-word.was))
 

@@ -6,12 +6,6 @@ use Rattle.frames.proofs.SizeWord.{kept, negative_non_neg, negative_word, positi
 use borrow.Author.Rules.{rules}
 use Rattle.frames.proofs.frame.frame_size.Goals as goal
 
-pub magnitude-requires : goal.magnitude-requires
-magnitude-requires c = rw (kept c.args.word c.signed-size.ensures c.requires) (negative_non_neg c.args.word (negative_word c.args.word c.signed-size.ensures c.requires c.if-size-lt0.true) c.requires)
-
-pub overflow_cast-result : goal.overflow_cast-result
-overflow_cast-result c = rw (positive_word c.args.word c.signed-size.ensures c.requires c.if-size-lt0.false) (tt, omega arith)
-
 pub returns-then-size-lt0 : goal.returns-then-size-lt0
 unfolding frame_size
 returns-then-size-lt0 c = let h = negative_word c.args.word c.signed-size.ensures c.requires c.if-size-lt0.true in

@@ -7,12 +7,6 @@ use Rattle.header.specs.Tables.{record_at}
 use Rattle.header_scan.proofs.PlaceLaws.{place_stays, record_next}
 use Rattle.header_scan.proofs.chain.record_at.Goals as goal
 
-pub loop-done-init : goal.loop-done-init
-loop-done-init c = let all : c.args.k ≡ c.args.k - 0 = omega arith in (ap (record_at c.args.s.now c.args.start) all, omega arith)
-
-pub overflow_add-at : goal.overflow_add-at
-overflow_add-at c = let v = place_stays c.args.s.now c.loop-done.at c.little_4.result c.little_4.ensures.0.is c.little_4.ensures.1 c.loop-done.invariant.1 in omega (arith, c.well_formed)
-
 pub loop-done-preserved : goal.loop-done-preserved
 loop-done-preserved c = (c.loop-done.invariant.0 ∙ record_next c.args.s.now c.loop-done.at (c.args.k - c.loop-done.done) (omega (arith, c.loop-done-test.true)) c.little_4.ensures.0.is ∙ ap (record_at c.args.s.now _) (omega arith), place_stays c.args.s.now c.loop-done.at c.little_4.result c.little_4.ensures.0.is c.little_4.ensures.1 c.loop-done.invariant.1)
 
