@@ -6,8 +6,7 @@ ghost use Rattle.wire.specs.Answers.{as_step};
 use crate::faults::fault_at;
 use crate::{Kind, Step};
 
-// The number of two bytes at `at`; and likewise of four and eight. A width is a load of its own: as a parameter it would be chosen among at
-// run time.
+// The number of two bytes at `at`; and likewise of four and eight.
 pub fn number_2(s: &[u8], at: usize) -> Step<u64>
     ensures { as_step result ≡ number 2 s.now at }
 {
