@@ -8,7 +8,7 @@ ghost use Rattle.writing.specs.Header.{field_head_piece, field_texts_piece, fiel
 
 use records::tested;
 use rows::{FIELD_WORDS, FieldHead, FieldNumber, FieldRow, FieldTexts};
-use verdicts::{BITS_16, BITS_32};
+use verdicts::{BITS_16, BITS_32, RowVerdicts};
 
 // What a field's record has before its strings, where there are `fields` fields. A repetition has a place of 64 bits.
 fn head_number(head: FieldHead, fields: u64) -> u16
@@ -42,18 +42,33 @@ fn field_number(strings: &[u8], row: FieldRow, fields: u64) -> u16
     verdicts::first(head, texts_number(strings, row.texts))
 }
 
+// The verdicts on fields, each of which may name any of `count` fields as its parent.
+#[derive(Clone, Copy)]
+struct FieldVerdicts<'a> {
+    strings: &'a [u8],
+    fields: &'a [u64],
+    count: u64,
+}
+
+impl RowVerdicts for FieldVerdicts<'_> {
+    ghost gives = { λ t i r. r ≡ (field_piece t.strings.now t.count (field_row t.fields.now i)).number };
+
+    fn verdict(&self, i: usize) -> u16 {
+        let row = field_rows::field_row(self.fields, FieldNumber(i as u64));
+        field_number(self.strings, row, self.count)
+    }
+}
+
 // The first refusal of the records of all fields, each of which may name any of `count` fields as its parent.
 fn fields_number(strings: &[u8], fields: &[u64], count: u64) -> u16
     ensures { result ≡ (pieces (field_item strings.now count) [] (all_rows field_row field_width fields.now)).number }
 {
-    verdicts::first_of_rows(
-        fields.len() / FIELD_WORDS,
-        |i| field_number(
-            strings,
-            field_rows::field_row(fields, FieldNumber(i as u64)),
-            count,
-        ),
-    )
+    let verdicts = FieldVerdicts {
+        strings,
+        fields,
+        count,
+    };
+    verdicts::first_of_rows(fields.len() / FIELD_WORDS, &verdicts)
 }
 
 // The first refusal of the list of fields.

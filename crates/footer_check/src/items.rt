@@ -7,7 +7,7 @@ ghost use Rattle.writing.specs.Rows.{all_rows};
 ghost use Rattle.writing.specs.Footer.{link_piece, checksum_piece, cluster_piece, cluster_item, link_item};
 
 use rows::{ClusterRow, Link};
-use verdicts::{BITS_31, BITS_32, BITS_60};
+use verdicts::{BITS_31, BITS_32, BITS_60, RowVerdicts};
 
 fn link_number(file: u64, link: Link) -> u16
     ensures { result ≡ (link_piece file link).number }
@@ -63,12 +63,25 @@ pub fn clusters_number(carried: bool, file: u64, clusters: &[u64]) -> u16
     0
 }
 
+// The verdicts on metadata links, in a file of so many bytes.
+#[derive(Clone, Copy)]
+struct LinkVerdicts<'a> {
+    file: u64,
+    metadata: &'a [u64],
+}
+
+impl RowVerdicts for LinkVerdicts<'_> {
+    ghost gives = { λ t i r. r ≡ (link_piece t.file (link_row t.metadata.now i)).number };
+
+    fn verdict(&self, i: usize) -> u16 {
+        link_number(self.file, cluster_rows::link_row(self.metadata, i as u64))
+    }
+}
+
 // The first refusal of the metadata links of a table.
 pub fn links_number(file: u64, metadata: &[u64]) -> u16
     ensures { result ≡ (pieces (link_item file) [] (all_rows link_row link_width metadata.now)).number }
 {
-    verdicts::first_of_rows(
-        metadata.len() / rows::LINK_WORDS,
-        |i| link_number(file, cluster_rows::link_row(metadata, i as u64)),
-    )
+    let verdicts = LinkVerdicts { file, metadata };
+    verdicts::first_of_rows(metadata.len() / rows::LINK_WORDS, &verdicts)
 }

@@ -10,7 +10,7 @@ ghost use Rattle.writing.specs.Header.{alias_piece, alias_item, alias_list_piece
 
 use records::tested;
 use rows::{ALIAS_WORDS, AliasRow, FIELD_WORDS};
-use verdicts::BITS_32;
+use verdicts::{BITS_32, RowVerdicts};
 
 // The word of a field's row that has its flags.
 const FLAGS: usize = 4;
@@ -37,14 +37,33 @@ fn alias_number(row: AliasRow, fields: &[u64], columns: u64) -> u16
     verdicts::first(physical, aliased)
 }
 
+// The verdicts on aliases of these fields, where there are `columns` columns.
+#[derive(Clone, Copy)]
+struct AliasVerdicts<'a> {
+    aliases: &'a [u64],
+    fields: &'a [u64],
+    columns: u64,
+}
+
+impl RowVerdicts for AliasVerdicts<'_> {
+    ghost gives = { λ t i r. r ≡ (alias_piece (flags_of (all_rows field_row field_width t.fields.now)) t.columns (alias_row t.aliases.now i)).number };
+
+    fn verdict(&self, i: usize) -> u16 {
+        let row = column_rows::alias_row(self.aliases, i as u64);
+        alias_number(row, self.fields, self.columns)
+    }
+}
+
 // The first refusal of the records of all aliases.
 fn aliases_number(aliases: &[u64], fields: &[u64], columns: u64) -> u16
     ensures { result ≡ (pieces (alias_item (flags_of (all_rows field_row field_width fields.now)) columns) [] (all_rows alias_row alias_width aliases.now)).number }
 {
-    verdicts::first_of_rows(
-        aliases.len() / ALIAS_WORDS,
-        |i| alias_number(column_rows::alias_row(aliases, i as u64), fields, columns),
-    )
+    let verdicts = AliasVerdicts {
+        aliases,
+        fields,
+        columns,
+    };
+    verdicts::first_of_rows(aliases.len() / ALIAS_WORDS, &verdicts)
 }
 
 // The first refusal of the list of aliases.

@@ -8,7 +8,7 @@ ghost use Rattle.writing.specs.Header.{column_piece, column_item, column_list_pi
 
 use records::tested;
 use rows::{COLUMN_WORDS, ColumnNumber, ColumnRow};
-use verdicts::{BITS_16, BITS_32};
+use verdicts::{BITS_16, BITS_32, RowVerdicts};
 
 // A column, where there are `fields` fields.
 fn column_number(row: ColumnRow, fields: u64) -> u16
@@ -24,17 +24,28 @@ fn column_number(row: ColumnRow, fields: u64) -> u16
     verdicts::first(column_type, verdicts::first(bits, last))
 }
 
+// The verdicts on columns, where there are `fields` fields.
+#[derive(Clone, Copy)]
+struct ColumnVerdicts<'a> {
+    columns: &'a [u64],
+    fields: u64,
+}
+
+impl RowVerdicts for ColumnVerdicts<'_> {
+    ghost gives = { λ t i r. r ≡ (column_piece t.fields (column_row t.columns.now i)).number };
+
+    fn verdict(&self, i: usize) -> u16 {
+        let row = column_rows::column_row(self.columns, ColumnNumber(i as u64));
+        column_number(row, self.fields)
+    }
+}
+
 // The first refusal of the records of all columns.
 fn columns_number(columns: &[u64], fields: u64) -> u16
     ensures { result ≡ (pieces (column_item fields) [] (all_rows column_row column_width columns.now)).number }
 {
-    verdicts::first_of_rows(
-        columns.len() / COLUMN_WORDS,
-        |i| column_number(
-            column_rows::column_row(columns, ColumnNumber(i as u64)),
-            fields,
-        ),
-    )
+    let verdicts = ColumnVerdicts { columns, fields };
+    verdicts::first_of_rows(columns.len() / COLUMN_WORDS, &verdicts)
 }
 
 // The first refusal of the list of columns.

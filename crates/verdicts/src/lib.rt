@@ -10,7 +10,7 @@ ghost use Rattle.frames.specs.Frames.{at_most};
 ghost use Rattle.writing.specs.Piece.{first, text};
 
 pub use length::{grown, with_rows};
-pub use refused::first_of_rows;
+pub use refused::{RowVerdicts, first_of_rows};
 use rows::Text;
 
 // The first number that is too wide for a place of so many bits.

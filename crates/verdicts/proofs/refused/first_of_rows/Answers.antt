@@ -12,12 +12,12 @@ returns-then-r-ne0 g c =
       most = omega arith;
       before = c.loop-i.invariant;
       refused = λ _. omega (arith, c.loop-i-test.true);
-      here = λ _. c.number-r.ensures;
+      here = λ _. c.verdict-r.ensures;
       passed = λ e. absurd (omega (arith, c.if-r-ne0.true e));
     }
 
 pub loop-i-preserved : goal.loop-i-preserved
-loop-i-preserved g c = below_more (λ (k : ℕ). goal.F-post g c.args.number k 0) c.loop-i.i c.loop-i.invariant (subst (λ (r : ℕ). goal.F-post g c.args.number c.loop-i.i r) c.if-r-ne0.false c.number-r.ensures)
+loop-i-preserved g c = below_more (λ (k : ℕ). g.R.RowVerdicts.gives c.args.rows.now k 0) c.loop-i.i c.loop-i.invariant (subst (λ (r : ℕ). g.R.RowVerdicts.gives c.args.rows.now c.loop-i.i r) c.if-r-ne0.false c.verdict-r.ensures)
 
 pub returns : goal.returns
 returns g c =
