@@ -8,6 +8,7 @@ ghost use Rattle.writing.specs.Rows.{page_rows_in};
 ghost use Rattle.writing.specs.PageList.{page_piece, page_item, by_column, in_column_order, column_pages_item, page_list_payload_piece};
 
 use rows::ColumnNumber;
+use stores::StoreItems;
 use writing::PageWords;
 
 // How many pages of a column were stored, and the place after them.
@@ -76,11 +77,27 @@ fn write_columns(pages: &[u64], n: usize, at: usize, out: &mut [u8]) -> usize
     next
 }
 
+// The pages of n columns.
+#[derive(Clone, Copy)]
+struct PageTable<'a> {
+    pages: &'a [u64],
+    n: usize,
+}
+
+impl StoreItems for PageTable<'_> {
+    ghost leaves = { λ t at before end after. in_column_order t.n 0 (page_rows_in t.pages.now) ≡ true → (file : ℕ) (bits : List ℕ) → Stored before at (pieces (column_pages_item file bits) [] (by_column 0 t.n (page_rows_in t.pages.now))).bytes after end };
+
+    fn store_items(&self, at: usize, out: &mut [u8]) -> usize {
+        write_columns(self.pages, self.n, at, out)
+    }
+}
+
 // The payload: a list with an item for each column.
 fn write_payload(pages: &[u64], n: usize, at: usize, out: &mut [u8]) -> usize
     ensures { in_column_order n 0 (page_rows_in pages.now) ≡ true → (file : ℕ) (bits : List ℕ) → Stored out.old at (page_list_payload_piece file bits (by_column 0 n (page_rows_in pages.now))).bytes out.new result }
 {
-    stores::store_list(n, at, out, |items, out| write_columns(pages, n, items, out))
+    let items = PageTable { pages, n };
+    stores::store_list(n, at, out, &items)
 }
 
 // The envelope, where there is room for it.

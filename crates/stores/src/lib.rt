@@ -10,7 +10,7 @@ ghost use Rattle.checksum.specs.Crc.{crc32};
 ghost use Rattle.tree.specs.Bytes.{spelled};
 ghost use Rattle.stores.specs.Stored.{Stored};
 
-pub use framed::{store_list, store_rows};
+pub use framed::{StoreItems, StoreRow, store_list, store_rows};
 
 // The k lowest bytes of a number, the least significant first. With k a literal the compiler makes one store of them; the room is tested by
 // two comparisons of which the first does not hang on the place, so that a loop makes it once.

@@ -1,4 +1,5 @@
 use Rattle.std.proofs.Common.{ℕ, ◌≡◌, refl, arith, add-one, sym, subst}
+use denote.Ref.{at_last}
 use Rattle.stores.specs.Rowed.{Rowed}
 use Rattle.stores.proofs.framed.store_rows.Goals as goal
 
@@ -9,10 +10,10 @@ loop-i-init g c = (refl, refl)
 pub loop-i-preserved : goal.loop-i-preserved
 unfolding Rowed
 loop-i-preserved g c =
-    subst (λ (k : ℕ). Rowed (goal.F-post g c.args.row) c.args.out.now c.args.at k c.row-next.new.arg4 c.row-next.result) (sym (add-one c.loop-i.i))
-    (record { place = c.loop-i.next; before = _; after = _; rows = c.loop-i.invariant; row = c.row-next.ensures; left = refl })
+    subst (λ (k : ℕ). Rowed (λ i place before end after. g.R.StoreRow.leaves c.args.rows.now i place before.now end after.now) c.args.out.now c.args.at k c.store_row-next.new.out c.store_row-next.result) (sym (add-one c.loop-i.i))
+    (record { place = c.loop-i.next; before = at_last c.args.out c.loop-i.out; after = at_last c.args.out c.store_row-next.new.out; rows = c.loop-i.invariant; row = c.store_row-next.ensures; left = refl })
 
 pub returns : goal.returns
 returns g c =
     let all : c.loop-i.i ≡ c.args.n = omega arith in
-    subst (λ (k : ℕ). Rowed (goal.F-post g c.args.row) c.args.out.now c.args.at k c.loop-i.out c.loop-i.next) all c.loop-i.invariant
+    subst (λ (k : ℕ). Rowed (λ i place before end after. g.R.StoreRow.leaves c.args.rows.now i place before.now end after.now) c.args.out.now c.args.at k c.loop-i.out c.loop-i.next) all c.loop-i.invariant

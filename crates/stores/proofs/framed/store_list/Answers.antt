@@ -1,0 +1,14 @@
+use denote.Ref.{at_last}
+use Rattle.stores.proofs.framed.store_list.Goals as goal
+
+pub returns : goal.returns
+returns g c =
+    record {
+      place = c.store_8-place.result;
+      before = at_last c.args.out c.store_8-place.new.out;
+      after = at_last c.args.out c.store_items-end.new.out;
+      behind = c.store_list_head.result;
+      room = c.store_8-place.ensures;
+      items = c.store_items-end.ensures;
+      head = rw (← c.saturating_sub.ensures) c.store_list_head.ensures;
+    }
