@@ -26,6 +26,10 @@ fn sum_of_moves(parents: &[u16], n: usize) -> usize
     requires inside { Inside parents.now n }
     ensures { result ≡ moves_where (total_moves (take n parents.now) n n) (endless (take n parents.now) n n) }
 {
+    // A header without fields has no arrays set up.
+    if n == 0 {
+        return 0;
+    }
     let mut marks = [0u16; rows::MOST_FIELDS];
     let mut steps = [0u16; rows::MOST_FIELDS];
     let mut depths = [0u16; rows::MOST_FIELDS];

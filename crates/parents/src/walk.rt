@@ -54,6 +54,10 @@ pub fn lowest_endless(parents: [u16; rows::MOST_FIELDS], n: usize) -> Option<Fie
     requires inside { Inside parents n }
     ensures { result ≡ endless (take n parents) n n }
 {
+    // A header without fields has no marks set up.
+    if n == 0 {
+        return None;
+    }
     let mut marks = [0u16; rows::MOST_FIELDS];
     for f in 0..n {
         let field = FieldNumber(f as u64);

@@ -1,9 +1,15 @@
-use mathlib.Core.Path.{sym, ◌∙◌}
+use mathlib.Core.Path.{refl, sym, ◌∙◌}
 use native.Mathlib.Omega.{arith}
 use Rattle.rows.specs.Words.{most_fields}
+use Rattle.parents.specs.Parents.{endless}
+use Rattle.chain_moves.specs.Moves.{total_moves}
 use Rattle.chain_moves.proofs.MovesLaws.{sum_le}
 use Rattle.chain_moves.proofs.Summing.{sum_starts, sum_goes, sum_never, sum_ends}
 use Rattle.chain_moves.proofs.sum_of_moves.Goals as goal
+
+pub returns-then-n-eq0 : goal.returns-then-n-eq0
+unfolding total_moves endless
+returns-then-n-eq0 c = rw (c.if-n-eq0.true) refl
 
 pub loop-f-init : goal.loop-f-init
 loop-f-init c = sum_starts _ _ most_fields c.requires.n_le_most_fields.0

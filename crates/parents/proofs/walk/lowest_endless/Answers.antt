@@ -6,6 +6,10 @@ use Rattle.parents.proofs.Following.{marked_none}
 use Rattle.parents.proofs.EndlessLaws.{endless_more, endless_found, endless_take}
 use Rattle.parents.proofs.walk.lowest_endless.Goals as goal
 
+pub returns-then-n-eq0 : goal.returns-then-n-eq0
+unfolding endless
+returns-then-n-eq0 c = rw (c.if-n-eq0.true) refl
+
 pub loop-f-init : goal.loop-f-init
 unfolding endless
 loop-f-init c = (refl, marked_none _ _ most_fields c.requires.n_le_most_fields)
