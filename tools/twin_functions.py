@@ -29,7 +29,13 @@ def functions(path):
         indent = head.group(1)
         start = i
         while lines[start] != indent + "{" and not (lines[start].endswith(" {") and (start == i or lines[start].startswith(indent + ")"))):
+            if lines[start].endswith(";"):
+                break
             start += 1
+        if lines[start].endswith(";"):
+            # a trait's method, which has no body
+            i = start + 1
+            continue
         end = start
         while lines[end] != indent + "}":
             end += 1
