@@ -5,6 +5,9 @@ ghost use Rattle.std.specs.Prelude.{◌≡◌, ◌+◌, ◌≤◌, ◌<◌, leng
 ghost use Rattle.utf8.specs.WellFormed.{well_formed, ◌to◌};
 ghost use Rattle.utf8.specs.Walking.{ascii, begins, width, sized, limit, read_to, blocks_from};
 
+// The least first byte of a sequence of two bytes.
+const LEAST_OF_TWO: u8 = 0xC2;
+
 // Every byte is below 128. The bits of all bytes are joined, which the compiler does many bytes at a time.
 pub fn is_ascii(s: &[u8]) -> bool
     ensures { result ≡ ascii s.now }
@@ -52,16 +55,14 @@ fn sequence_at(s: &[u8], at: usize) -> Option<usize>
     if first < 0x80 {
         return Some(1);
     }
-    if first < 0xC2 {
-        return None;
-    }
-    if first < 0xE0 {
+    // A range of values is one comparison, and text of two-byte characters takes this path each time.
+    if LEAST_OF_TWO <= first && first < 0xE0 {
         if byte_in(s, at + 1, 0x80, 0xBF) {
             return Some(2);
         }
         return None;
     }
-    if 0xF4 < first {
+    if first < 0xE0 || 0xF4 < first {
         return None;
     }
     let least = limit(first, 0xE0, 0xA0, 0xF0, 0x90, 0x80);
@@ -96,7 +97,8 @@ fn walk(s: &[u8], from: usize, end: usize) -> Option<usize>
     Some(at)
 }
 
-// The same over `size` bytes, at once where they are ASCII.
+// The same over `size` bytes, at once where they are ASCII. Inlined, as `blocks` is: where the size is known, the test for ASCII needs no loop.
+#[inline(always)]
 fn block(s: &[u8], from: usize, size: usize) -> Option<usize>
     requires { from + size ≤ length s.now }
     ensures { result ≡ read_to s.now from (from + size) }
@@ -109,6 +111,7 @@ fn block(s: &[u8], from: usize, size: usize) -> Option<usize>
 }
 
 // The same over as many blocks of `size` bytes as there are.
+#[inline(always)]
 fn blocks(s: &[u8], from: usize, size: usize) -> Option<usize>
     requires { (from ≤ length s.now) × (0 < size) }
     ensures { result ≡ blocks_from (length s.now) s.now size from }
